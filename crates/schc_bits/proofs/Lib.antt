@@ -1,0 +1,3 @@
+pub mod NumberBits
+pub mod Octets
+pub mod Reading
