@@ -1,0 +1,233 @@
+ghost use Rattle.std.specs.Prelude.{◌≡◌, ◌↔◌, IsTrue};
+ghost use Rattle.schc_ids.specs.Names.{
+  width_of,
+  layer_of,
+  rank_of,
+  fields_of_stack,
+  is_option,
+  same_name,
+};
+
+/// The layers whose headers are compressed.
+#[derive(Clone, Copy, Debug, PartialEq, Eq)]
+pub enum Layer {
+    Ip,
+    Udp,
+    Coap,
+}
+
+/// The headers that a rule describes, from IPv6 on.
+#[derive(Clone, Copy, Debug, PartialEq, Eq)]
+pub enum Stack {
+    Ip,
+    IpUdp,
+    IpUdpCoap,
+}
+
+/// The name of a header field (field identifier of RFC 8724 section 7.1), in packet order.
+///
+/// Addresses and ports are named after the device and the application, and not after source and
+/// destination (RFC 8724 section 10.7). `CoapOption` holds the option's number.
+#[derive(Clone, Copy, Debug, PartialEq, Eq)]
+pub enum FieldName {
+    IpVersion,
+    IpTrafficClass,
+    IpFlowLabel,
+    IpPayloadLength,
+    IpNextHeader,
+    IpHopLimit,
+    IpDevPrefix,
+    IpDevIid,
+    IpAppPrefix,
+    IpAppIid,
+    UdpDevPort,
+    UdpAppPort,
+    UdpLength,
+    UdpChecksum,
+    CoapVersion,
+    CoapType,
+    CoapTkl,
+    CoapCode,
+    CoapMid,
+    CoapToken,
+    CoapOption(u16),
+}
+
+/// A field of a packet. Positions count the repeats of an option from 1; every other field has
+/// position 1.
+#[derive(Clone, Copy, Debug, PartialEq, Eq)]
+pub struct FieldAt {
+    pub name: FieldName,
+    pub position: u16,
+}
+
+impl FieldName {
+    /// Whether the field is a CoAP option.
+    pub fn is_option(self) -> bool
+        ensures { result ≡ is_option self }
+    {
+        matches!(self, FieldName::CoapOption(_))
+    }
+
+    /// Whether both are the same name.
+    pub fn same(self, other: FieldName) -> bool
+        ensures { result ≡ same_name self other }
+    {
+        self == other
+    }
+
+    /// The layer whose header has the field.
+    pub fn layer(self) -> Layer
+        ensures { result ≡ layer_of self }
+    {
+        match self {
+            FieldName::IpVersion
+            | FieldName::IpTrafficClass
+            | FieldName::IpFlowLabel
+            | FieldName::IpPayloadLength
+            | FieldName::IpNextHeader
+            | FieldName::IpHopLimit
+            | FieldName::IpDevPrefix
+            | FieldName::IpDevIid
+            | FieldName::IpAppPrefix
+            | FieldName::IpAppIid => Layer::Ip,
+            FieldName::UdpDevPort
+            | FieldName::UdpAppPort
+            | FieldName::UdpLength
+            | FieldName::UdpChecksum => Layer::Udp,
+            _ => Layer::Coap,
+        }
+    }
+
+    /// The field's place in packet order: fields with a lower rank stand first, and options stand in
+    /// ascending order of their numbers.
+    pub fn rank(self) -> u32
+        ensures { result ≡ rank_of self }
+    {
+        match self {
+            FieldName::IpVersion => 0,
+            FieldName::IpTrafficClass => 1,
+            FieldName::IpFlowLabel => 2,
+            FieldName::IpPayloadLength => 3,
+            FieldName::IpNextHeader => 4,
+            FieldName::IpHopLimit => 5,
+            FieldName::IpDevPrefix => 6,
+            FieldName::IpDevIid => 7,
+            FieldName::IpAppPrefix => 8,
+            FieldName::IpAppIid => 9,
+            FieldName::UdpDevPort => 10,
+            FieldName::UdpAppPort => 11,
+            FieldName::UdpLength => 12,
+            FieldName::UdpChecksum => 13,
+            FieldName::CoapVersion => 14,
+            FieldName::CoapType => 15,
+            FieldName::CoapTkl => 16,
+            FieldName::CoapCode => 17,
+            FieldName::CoapMid => 18,
+            FieldName::CoapToken => 19,
+            FieldName::CoapOption(number) => 20 + u32::from(number),
+        }
+    }
+}
+
+impl FieldAt {
+    /// Whether both are the same field.
+    pub fn same(&self, other: &FieldAt) -> bool
+        ensures { IsTrue result ↔ (self.now ≡ other.now) }
+    {
+        self.name == other.name && self.position == other.position
+    }
+}
+
+/// The field's width in bits (RFC 8200 section 3, RFC 768, RFC 7252 section 3), `None` exactly for
+/// the token and the options, whose length varies.
+pub fn width(name: FieldName) -> Option<u16>
+    ensures { result ≡ width_of name }
+{
+    match name {
+        FieldName::IpVersion => Some(4),
+        FieldName::IpTrafficClass => Some(8),
+        FieldName::IpFlowLabel => Some(20),
+        FieldName::IpPayloadLength => Some(16),
+        FieldName::IpNextHeader => Some(8),
+        FieldName::IpHopLimit => Some(8),
+        FieldName::IpDevPrefix => Some(64),
+        FieldName::IpDevIid => Some(64),
+        FieldName::IpAppPrefix => Some(64),
+        FieldName::IpAppIid => Some(64),
+        FieldName::UdpDevPort => Some(16),
+        FieldName::UdpAppPort => Some(16),
+        FieldName::UdpLength => Some(16),
+        FieldName::UdpChecksum => Some(16),
+        FieldName::CoapVersion => Some(2),
+        FieldName::CoapType => Some(2),
+        FieldName::CoapTkl => Some(4),
+        FieldName::CoapCode => Some(8),
+        FieldName::CoapMid => Some(16),
+        FieldName::CoapToken => None,
+        FieldName::CoapOption(_) => None,
+    }
+}
+
+const IP_NAMES: [FieldName; 10] = [
+    FieldName::IpVersion,
+    FieldName::IpTrafficClass,
+    FieldName::IpFlowLabel,
+    FieldName::IpPayloadLength,
+    FieldName::IpNextHeader,
+    FieldName::IpHopLimit,
+    FieldName::IpDevPrefix,
+    FieldName::IpDevIid,
+    FieldName::IpAppPrefix,
+    FieldName::IpAppIid,
+];
+
+const IP_UDP_NAMES: [FieldName; 14] = [
+    FieldName::IpVersion,
+    FieldName::IpTrafficClass,
+    FieldName::IpFlowLabel,
+    FieldName::IpPayloadLength,
+    FieldName::IpNextHeader,
+    FieldName::IpHopLimit,
+    FieldName::IpDevPrefix,
+    FieldName::IpDevIid,
+    FieldName::IpAppPrefix,
+    FieldName::IpAppIid,
+    FieldName::UdpDevPort,
+    FieldName::UdpAppPort,
+    FieldName::UdpLength,
+    FieldName::UdpChecksum,
+];
+
+const IP_UDP_COAP_NAMES: [FieldName; 19] = [
+    FieldName::IpVersion,
+    FieldName::IpTrafficClass,
+    FieldName::IpFlowLabel,
+    FieldName::IpPayloadLength,
+    FieldName::IpNextHeader,
+    FieldName::IpHopLimit,
+    FieldName::IpDevPrefix,
+    FieldName::IpDevIid,
+    FieldName::IpAppPrefix,
+    FieldName::IpAppIid,
+    FieldName::UdpDevPort,
+    FieldName::UdpAppPort,
+    FieldName::UdpLength,
+    FieldName::UdpChecksum,
+    FieldName::CoapVersion,
+    FieldName::CoapType,
+    FieldName::CoapTkl,
+    FieldName::CoapCode,
+    FieldName::CoapMid,
+];
+
+/// The fields that each packet of the stack has, in packet order.
+pub fn always_present(stack: Stack) -> &'static [FieldName]
+    ensures { result.now ≡ fields_of_stack stack }
+{
+    match stack {
+        Stack::Ip => &IP_NAMES,
+        Stack::IpUdp => &IP_UDP_NAMES,
+        Stack::IpUdpCoap => &IP_UDP_COAP_NAMES,
+    }
+}
