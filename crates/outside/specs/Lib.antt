@@ -1,0 +1,4 @@
+pub mod Counting
+pub mod InMemory
+pub mod Reading
+pub mod Writing
