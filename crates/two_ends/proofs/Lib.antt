@@ -1,0 +1,4 @@
+pub mod LedLemmas
+pub mod KeepsLemmas
+pub mod CleanLemmas
+pub mod FormLemmas

@@ -1,0 +1,71 @@
+-- A run in which nothing is lost: a packet that is handed down arrives, once.
+use Rattle.std.specs.Prelude.{◌≡◌, ℕ, List, [], ◌∷◌, ◌++◌, length, Some, None, Result, Ok}
+use Rattle.schc_ids.specs.Ends.{sent_direction, other_role}
+use Rattle.schc_ids.specs.declared.ends.EndParams.{EndParams}
+use Rattle.schc_ids.specs.declared.ends.Role.{Role}
+use Rattle.schc_ids.specs.declared.ends.Role.TheVariants.{Device, Gateway}
+use Rattle.schc_ids.specs.declared.ends.Direction.{Direction}
+use Rattle.two_ends.specs.Events.{Event, Down, Slot, Deliver}
+use Rattle.two_ends.specs.World.{WorldData, step}
+use Rattle.two_ends.specs.Fits.{Fits, FitsEvent}
+use Rattle.two_ends.specs.History.{HandedUp, History, start, next, run}
+use Rattle.two_ends.specs.Safe.{kept}
+use Rattle.two_ends.specs.declared.outcomes.Accepted.{Accepted}
+use Rattle.two_ends.specs.declared.outcomes.Line.{Line}
+use Rattle.two_ends.specs.declared.outcomes.Line.TheVariants as line
+use Rattle.two_ends.specs.declared.outcomes.StepFault.{StepFault}
+
+-- an outcome of an event
+abbrev pub outcome : WorldData → Event → Result Line StepFault
+outcome w event = (step w event).1
+
+-- neither end has a frame due: a slot would give none
+pub record HasNothingDue (w : WorldData) : Type 0 where
+  pub device : outcome w (Slot Device) ≡ Ok (line.Slot None)
+  pub gateway : outcome w (Slot Gateway) ≡ Ok (line.Slot None)
+
+-- the frame that a slot gave in this direction is delivered; where it gave none, nothing happens
+unfoldable pub delivered : History → Direction → Result Line StepFault → History
+delivered h direction (Ok (line.Slot (Some emission))) = next h (Deliver direction emission.number)
+delivered h direction slot = h
+
+-- a slot of the end, and its frame delivered
+unfoldable pub slot_delivered : History → Role → History
+slot_delivered h role = delivered (next h (Slot role)) (sent_direction role) (outcome h.world (Slot role))
+
+-- a plain round of the end: a slot of it, its frame delivered, a slot of the other end, its frame delivered
+unfoldable pub plain_round : History → Role → History
+plain_round h role = slot_delivered (slot_delivered h role) (other_role role)
+
+-- the packet is handed down, and a plain round follows
+abbrev pub round_after : History → Role → List ℕ → History
+round_after h role packet = plain_round (next h (Down role packet)) role
+
+-- exactly one more packet was handed up: this one, from this direction and under this RuleID, and its label leads to
+-- the packet that was handed down with this index
+pub record BringsUp (before after : List HandedUp) (direction : Direction) (packet : List ℕ) (accepted : Accepted) (index : ℕ) : Type 0 where
+  pub entry : HandedUp
+  pub one_more : after ≡ before ++ entry ∷ []
+  pub from_there : entry.direction ≡ direction
+  pub under_rule : entry.rule_id ≡ accepted.rule_id
+  pub same_packet : entry.packet ≡ kept packet
+  pub leads_here : entry.label ≡ Some index
+
+-- a packet that was handed down at an end was carried, from the history before to the one after: it was handed up
+-- once, and then neither end has a frame due
+pub record IsCarried (before after : History) (role : Role) (packet : List ℕ) (accepted : Accepted) : Type 0 where
+  pub arrives : BringsUp before.logs.ups after.logs.ups (sent_direction role) packet accepted (length before.logs.downs)
+  pub at_rest : HasNothingDue after.world
+
+-- a packet that is handed down where neither end has a frame due, and taken, is carried by one plain round
+abbrev pub Arrives : History → Role → List ℕ → Type 0
+Arrives h role packet =
+    (accepted : Accepted) → HasNothingDue h.world →
+    outcome h.world (Down role packet) ≡ Ok (line.Hand accepted) →
+    IsCarried h (round_after h role packet) role packet accepted
+
+-- so it is in every world that events lead to
+abbrev pub Clean : Type 0
+Clean =
+    (params : EndParams) (events : List Event) → Fits params events →
+    (role : Role) (packet : List ℕ) → FitsEvent (Down role packet) → Arrives (run events (start params)) role packet

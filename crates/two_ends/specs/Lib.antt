@@ -1,0 +1,8 @@
+pub mod Records
+pub mod Events
+pub mod End
+pub mod World
+pub mod Fits
+pub mod History
+pub mod Safe
+pub mod Clean
