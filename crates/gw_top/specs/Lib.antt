@@ -1,0 +1,5 @@
+pub mod Text
+pub mod ScriptData
+pub mod Script
+pub mod Lines
+pub mod Answers

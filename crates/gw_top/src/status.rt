@@ -1,0 +1,26 @@
+/// What was counted past its limit.
+#[derive(Clone, Copy, Debug, PartialEq, Eq)]
+pub enum Counted {
+    /// The bytes of the input.
+    Bytes,
+}
+
+/// How a run of the program ended.
+#[derive(Clone, Copy, Debug, PartialEq, Eq)]
+pub enum Status {
+    /// The input was read to its end, and all output was written.
+    Ok,
+    /// The words are outside the grammar; the number is the place of the first bad word, from 1, or one past the
+    /// last word where one lacks.
+    Usage(u32),
+    /// The input is outside the grammar. The number of the line, or 0 where lines are not told apart.
+    BadInput(u64),
+    /// A read of the source failed.
+    ReadFault,
+    /// A write to the sink failed, or took nothing.
+    WriteFault,
+    /// Memory is wanting.
+    Memory,
+    /// A limit is passed: what was counted, and the number that was reached.
+    Limit(Counted, u64),
+}
