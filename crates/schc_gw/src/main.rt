@@ -1,0 +1,62 @@
+//! The program: it runs the command that its words name, over the standard input and output.
+#![tactic(auto)]
+
+mod words;
+
+use gw_top::{Status, run};
+use outside::{StdSink, StdSource};
+use std::process::ExitCode;
+
+const HELP: &str = "schc_gw: a gateway and a device end for SCHC (RFC 8724)
+
+  schc_gw sim        reads a script on standard input, prints a line for each of its events
+  schc_gw --help     prints this text
+  schc_gw --version  prints the program's name and version
+";
+
+const VERSION: &str = "schc_gw 0.1.0\n";
+
+fn main(rt: HostRuntime) -> ExitCode {
+    let status = match words::given(&rt) {
+        Ok(words) => answer(&rt, words.as_slice()),
+        Err(_) => Status::Memory,
+    };
+    ExitCode::from(report(&rt, status))
+}
+
+/// What the program does with these words.
+fn answer(rt: &HostRuntime, words: &[String]) -> Status {
+    if let [word] = words {
+        if word.as_str() == "--help" {
+            return show(rt, HELP);
+        }
+        if word.as_str() == "--version" {
+            return show(rt, VERSION);
+        }
+    }
+    let mut input = StdSource::new(rt.stdin());
+    let mut output = StdSink::new(rt.stdout());
+    run(rt.alloc(), words, &mut input, &mut output)
+}
+
+fn show(rt: &HostRuntime, text: &str) -> Status {
+    match print!(rt; "{text}") {
+        Ok(()) => Status::Ok,
+        Err(_) => Status::WriteFault,
+    }
+}
+
+/// Says on standard error why a run ended otherwise than well, and gives its exit status.
+fn report(rt: &HostRuntime, status: Status) -> u8 {
+    let (code, said) = match status {
+        Status::Ok => (0, Ok(())),
+        Status::Usage(place) => (2, eprintln!(rt; "schc_gw: bad word {place}")),
+        Status::BadInput(line) => (3, eprintln!(rt; "schc_gw: bad input {line}")),
+        Status::ReadFault => (4, eprintln!(rt; "schc_gw: read failed")),
+        Status::WriteFault => (5, eprintln!(rt; "schc_gw: write failed")),
+        Status::Memory => (6, eprintln!(rt; "schc_gw: out of memory")),
+        Status::Limit(_, _) => (7, eprintln!(rt; "schc_gw: limit")),
+    };
+    let _ = said;
+    code
+}
