@@ -1,0 +1,6 @@
+pub mod Data
+pub mod Cover
+pub mod Findings
+pub mod Kept
+pub mod Matches
+pub mod Residue

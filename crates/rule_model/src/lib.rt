@@ -1,0 +1,19 @@
+//! Compression rules as plain types, the findings that a rule can have, and admitted rules.
+#![tactic(auto)]
+
+mod admitted;
+mod cover;
+mod finding;
+mod lookup;
+mod rule;
+mod value;
+
+pub use admitted::Admitted;
+pub use cover::{dropped_fields, has_layer, is_lossy, serves, stack_of};
+pub use finding::{Finding, Row};
+pub use lookup::{index_width, value_of};
+pub use rule::{Action, Entries, Entry, Length, Operator, Rule, Targets};
+pub use value::{Computed, FieldValue, Fields};
+
+#[cfg(test)]
+mod tests;
