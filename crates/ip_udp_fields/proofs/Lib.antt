@@ -1,0 +1,12 @@
+pub mod PieceLemmas
+pub mod FirstLemmas
+pub mod PlaceLemmas
+pub mod RefusalLemmas
+pub mod FieldsLemmas
+pub mod SumLemmas
+pub mod PresenceLemmas
+pub mod NameLemmas
+pub mod OrderLemmas
+pub mod SpanLemmas
+pub mod JoinLemmas
+pub mod SplitLemmas

@@ -1,0 +1,44 @@
+-- Walking the conditions under which fields make no packet.
+use Rattle.std.specs.Prelude.{ℕ, ◌≡◌, ◌+◌, ◌<◌, List, ◌∷◌, ◌++◌, length, get_or, drop, Some, None}
+use Rattle.std.proofs.Common.{ap, sym, ◌∙◌, add-one}
+use Rattle.std.proofs.Math.Seq.{drop-cons}
+use Rattle.schc_ids.specs.declared.names.Stack.{Stack}
+use Rattle.schc_ids.specs.declared.names.FieldName.{FieldName}
+use Rattle.schc_ids.specs.Names.{fields_of_stack}
+use Rattle.rule_model.specs.declared.value.FieldValue.{FieldValue}
+use Rattle.ip_udp_fields.specs.declared.parts.JoinFault.{JoinFault}
+use Rattle.ip_udp_fields.specs.First.{first_held}
+use Rattle.ip_udp_fields.specs.Join.{presence_of, presence, order, contents, join_refusal}
+use Rattle.ip_udp_fields.proofs.FirstLemmas.{first_held-append_some, first_held-append_none}
+
+at_index : (fields : List FieldValue) (names : List FieldName) (i : ℕ) (d : FieldName) → i < length names → first_held (presence fields (drop i names)) ≡ first_held (presence_of fields (get_or names i d) ++ presence fields (drop (i + 1) names))
+at_index fields names i d h =
+    let first : drop i names ≡ get_or names i d ∷ drop (i + 1) names = rw (add-one i) (drop-cons names i d h) in
+    ap (λ ns. first_held (presence fields ns)) first
+
+-- the field at this index isn't as it should be
+pub presence-found : (fields : List FieldValue) (names : List FieldName) (i : ℕ) (d : FieldName) (fault : JoinFault) → i < length names → first_held (presence_of fields (get_or names i d)) ≡ Some fault → first_held (presence fields (drop i names)) ≡ Some fault
+presence-found fields names i d fault h e =
+    at_index fields names i d h ∙ first_held-append_some (presence_of fields (get_or names i d)) (presence fields (drop (i + 1) names)) fault e
+
+-- the field at this index is as it should be
+pub presence-passed : (fields : List FieldValue) (names : List FieldName) (i : ℕ) (d : FieldName) → i < length names → first_held (presence_of fields (get_or names i d)) ≡ None → first_held (presence fields (drop (i + 1) names)) ≡ first_held (presence fields (drop i names))
+presence-passed fields names i d h e =
+    sym (at_index fields names i d h ∙ first_held-append_none (presence_of fields (get_or names i d)) (presence fields (drop (i + 1) names)) e)
+
+pub join_refusal-presence : (of : Stack) (fields : List FieldValue) (size : ℕ) (fault : JoinFault) → first_held (presence fields (fields_of_stack of)) ≡ Some fault → join_refusal of fields size ≡ Some fault
+unfolding join_refusal
+join_refusal-presence of fields size fault e =
+    first_held-append_some (presence fields (fields_of_stack of)) (order (fields_of_stack of) fields ++ contents of fields size) fault e
+
+pub join_refusal-order : (of : Stack) (fields : List FieldValue) (size : ℕ) (fault : JoinFault) → first_held (presence fields (fields_of_stack of)) ≡ None → first_held (order (fields_of_stack of) fields) ≡ Some fault → join_refusal of fields size ≡ Some fault
+unfolding join_refusal
+join_refusal-order of fields size fault p e =
+    first_held-append_none (presence fields (fields_of_stack of)) (order (fields_of_stack of) fields ++ contents of fields size) p
+    ∙ first_held-append_some (order (fields_of_stack of) fields) (contents of fields size) fault e
+
+pub join_refusal-contents : (of : Stack) (fields : List FieldValue) (size : ℕ) → first_held (presence fields (fields_of_stack of)) ≡ None → first_held (order (fields_of_stack of) fields) ≡ None → join_refusal of fields size ≡ first_held (contents of fields size)
+unfolding join_refusal
+join_refusal-contents of fields size p o =
+    first_held-append_none (presence fields (fields_of_stack of)) (order (fields_of_stack of) fields ++ contents of fields size) p
+    ∙ first_held-append_none (order (fields_of_stack of) fields) (contents of fields size) o

@@ -1,0 +1,53 @@
+-- The fields of a packet: RFC 8200, section 3, and RFC 768.
+use Rattle.std.specs.Prelude.{ℕ, ◌≡◌, ◌+◌, ◌≤◌, Bool, List, length, map, take, drop}
+use Rattle.schc_ids.specs.declared.ends.Direction.{Direction}
+use Rattle.schc_ids.specs.declared.names.Stack.{Stack}
+use Rattle.schc_ids.specs.declared.names.Stack.TheVariants as stack
+use Rattle.schc_ids.specs.declared.names.FieldName.{FieldName}
+use Rattle.schc_ids.specs.declared.names.FieldAt.{FieldAt}
+use Rattle.schc_ids.specs.Names.{fields_of_stack}
+use Rattle.rule_model.specs.declared.value.FieldValue.{FieldValue}
+use Rattle.ip_udp_fields.specs.Layout.{header_size, place_of, bits_of, piece, number_in}
+
+-- the field of this name; every field but an option has position 1
+abbrev pub at_name : FieldName → FieldAt
+at_name name = record { name = name; position = 1 }
+
+-- the field of this name, with its bits in the packet
+abbrev pub field_in : Direction → List ℕ → FieldName → FieldValue
+field_in way packet name = record { at = at_name name; value = piece (place_of way name) (bits_of name) packet }
+
+-- the same, where these are the bits of the headers
+abbrev pub field_within : Direction → List Bool → FieldName → FieldValue
+field_within way header name = record { at = at_name name; value = take (bits_of name) (drop (place_of way name) header) }
+
+-- the fields of a packet of the stack, in packet order
+unfoldable pub fields_in : Stack → Direction → List ℕ → List FieldValue
+fields_in stack way packet = map (field_in way packet) (fields_of_stack stack)
+
+-- an IPv6 packet: the version is 6, and the payload length is the number of the bytes after the header
+-- (RFC 8200, section 3)
+pub record IsIpv6 (packet : List ℕ) : Type 0 where
+  pub header : 40 ≤ length packet
+  pub version : number_in 0 4 packet ≡ 6
+  pub payload_length : number_in 32 16 packet + 40 ≡ length packet
+
+-- an IPv6 packet whose payload is a UDP datagram: the next header is 17 (RFC 8200, section 3), and the UDP length is the
+-- number of the datagram's bytes (RFC 768)
+pub record IsUdp (packet : List ℕ) : Type 0 where
+  pub ipv6 : IsIpv6 packet
+  pub next_header : number_in 48 8 packet ≡ 17
+  pub header : 48 ≤ length packet
+  pub udp_length : number_in 352 16 packet + 40 ≡ length packet
+
+-- the packet is one of the stack; packets with CoAP are described elsewhere
+abbrev pub IsPacketOf : Stack → List ℕ → Type 0
+IsPacketOf stack.Ip packet = IsIpv6 packet
+IsPacketOf stack.IpUdp packet = IsUdp packet
+IsPacketOf stack.IpUdpCoap packet = ⊥
+
+-- the packet is one of the stack, these are its fields, and its payload begins at this byte
+pub record FieldsOf (stack : Stack) (way : Direction) (packet : List ℕ) (fields : List FieldValue) (payload_from : ℕ) : Type 0 where
+  pub is_packet : IsPacketOf stack packet
+  pub its_fields : fields ≡ fields_in stack way packet
+  pub its_payload : payload_from ≡ header_size stack

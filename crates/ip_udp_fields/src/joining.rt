@@ -1,0 +1,259 @@
+//! A packet from its fields.
+
+ghost use Rattle.std.specs.Prelude.{ℕ, ◌≡◌, ◌+◌, ◌*◌, ◌≤◌, ◌<◌, ◌⊎◌, ◌++◌, [], ◌∷◌, length, drop, Some, None, IfOk, IfErr, OnOk, unwrap_or};
+ghost use Rattle.std.specs.Option.{option_copied, option_map};
+ghost use Rattle.schc_ids.specs.Names.{fields_of_stack};
+ghost use Rattle.schc_bits.specs.Bits.{AreBytes, padded, bytes_of};
+ghost use Rattle.ip_udp_fields.specs.First.{first_held};
+ghost use Rattle.ip_udp_fields.specs.Layout.{IsWithoutCoap, header_size};
+ghost use Rattle.ip_udp_fields.specs.Fields.{FieldsOf, at_name};
+ghost use Rattle.ip_udp_fields.specs.Join.{
+  is_at,
+  value_in,
+  value_of,
+  presence_of,
+  presence,
+  names_after,
+  order,
+  has_number,
+  is_number,
+  contents,
+  join_refusal,
+  mirrored,
+  values_in,
+  header_bits,
+};
+
+use crate::layout::{bits, mirrored};
+use crate::parts::JoinFault;
+use rule_model::{FieldValue, Fields};
+use schc_bits::{Bits, Octets, number_of};
+use schc_ids::{Direction, FieldAt, FieldName, Stack, always_present};
+use std::alloc::{AllocError, Global};
+
+/// Joins fields and a payload to a packet: the IPv6 header (RFC 8200 section 3), for the stack with
+/// UDP its header (RFC 768), and the payload. The checksum is taken as it is.
+///
+/// # Errors
+/// The first condition that fails: each field that the headers have is among the fields and has
+/// its width, in packet order; each field of the list is one of them and stands after the one
+/// before it; the version is 6; with UDP the next header is 17; the bytes after the IPv6 header
+/// are at most 65,535; the payload length and the UDP length are their number. Or want of memory.
+pub fn join(
+    alloc: Global,
+    stack: Stack,
+    direction: Direction,
+    fields: &Fields,
+    payload: &[u8],
+) -> Result<Octets, JoinFault>
+    requires { IsWithoutCoap stack }
+    ensures fields { IfOk result (λ packet. FieldsOf stack direction packet.items fields.now.items (header_size stack)) }
+    ensures payload { IfOk result (λ packet. drop (header_size stack) packet.items ≡ payload.now) }
+    ensures bytes { IfOk result (λ packet. AreBytes packet.items) }
+    ensures ok { IfOk result (λ _. join_refusal stack fields.now.items (length payload.now) ≡ None) }
+    ensures err { IfErr result (λ fault. (fault ≡ JoinFault.Memory)
+        ⊎ (join_refusal stack fields.now.items (length payload.now) ≡ Some fault)) }
+{
+    let listed = fields.as_slice();
+    match join_refusal(stack, listed, payload.len()) {
+        Some(fault) => Err(fault),
+        None => match joined(alloc, stack, direction, listed, payload) {
+            Ok(packet) => Ok(packet),
+            Err(_) => Err(JoinFault::Memory),
+        },
+    }
+}
+
+#[tactic(auto, unfolding(crate::specs::Join::header_bits))]
+fn joined(
+    alloc: Global,
+    stack: Stack,
+    direction: Direction,
+    fields: &[FieldValue],
+    payload: &[u8],
+) -> Result<Octets, AllocError>
+    ensures { IfOk result (λ packet. packet.items
+        ≡ bytes_of (padded (header_bits stack direction fields.now)) ++ payload.now) }
+{
+    let header = header_bits(alloc, stack, direction, fields)?;
+    let mut packet = header.to_padded_bytes()?;
+    packet.extend_from(payload)?;
+    Ok(packet)
+}
+
+fn header_bits(
+    alloc: Global,
+    stack: Stack,
+    direction: Direction,
+    fields: &[FieldValue],
+) -> Result<Bits, AllocError>
+    ensures { IfOk result (λ header. header ≡ values_in direction fields.now (fields_of_stack stack)) }
+{
+    let mut header = Bits::new(alloc);
+    for name in always_present(stack) {
+        append_value(&mut header, fields, mirrored(direction, *name))?;
+    }
+    Ok(header)
+}
+
+fn append_value(header: &mut Bits, fields: &[FieldValue], name: FieldName) -> Result<(), AllocError>
+    ensures { OnOk result (header.new ≡ header.old ++ value_of fields.now name) }
+{
+    match value_in(fields, name) {
+        Some(value) => header.extend(value),
+        None => Ok(()),
+    }
+}
+
+fn is_at(at: FieldAt, name: FieldName) -> bool
+    ensures { result ≡ is_at at name }
+{
+    at.name.same(name) && at.position == 1
+}
+
+fn value_in(fields: &[FieldValue], name: FieldName) -> Option<&Bits>
+    ensures { option_copied result ≡ value_in fields.now name }
+{
+    for field in fields {
+        if is_at(field.at, name) {
+            return Some(&field.value);
+        }
+    }
+    None
+}
+
+fn join_refusal(stack: Stack, fields: &[FieldValue], size: usize) -> Option<JoinFault>
+    ensures { result ≡ join_refusal stack fields.now size }
+{
+    match presence_fault(stack, fields) {
+        Some(fault) => Some(fault),
+        None => match order_fault(stack, fields) {
+            Some(fault) => Some(fault),
+            None => content_fault(stack, fields, size),
+        },
+    }
+}
+
+fn presence_fault(stack: Stack, fields: &[FieldValue]) -> Option<JoinFault>
+    ensures { result ≡ first_held (presence fields.now (fields_of_stack stack)) }
+{
+    for name in always_present(stack) {
+        match field_fault(fields, *name) {
+            Some(fault) => return Some(fault),
+            None => {}
+        }
+    }
+    None
+}
+
+fn field_fault(fields: &[FieldValue], name: FieldName) -> Option<JoinFault>
+    ensures { result ≡ first_held (presence_of fields.now name) }
+{
+    match value_in(fields, name) {
+        None => Some(JoinFault::FieldAbsent(at_name(name))),
+        Some(value) => {
+            if value.len() == bits(name) {
+                None
+            } else {
+                Some(JoinFault::FieldWrong(at_name(name)))
+            }
+        }
+    }
+}
+
+fn at_name(name: FieldName) -> FieldAt
+    ensures { result ≡ at_name name }
+{
+    FieldAt { name, position: 1 }
+}
+
+fn order_fault(stack: Stack, fields: &[FieldValue]) -> Option<JoinFault>
+    ensures { result ≡ first_held (order (fields_of_stack stack) fields.now) }
+{
+    let mut names = always_present(stack);
+    for field in fields {
+        match names_after(field.at, names) {
+            None => return Some(JoinFault::FieldWrong(field.at)),
+            Some(after) => names = after,
+        }
+    }
+    None
+}
+
+fn names_after(at: FieldAt, names: &[FieldName]) -> Option<&[FieldName]>
+    ensures { option_map (λ after. after.now) result ≡ names_after at names.now }
+{
+    let mut rest = names;
+    while let [name, later @ ..] = rest {
+        if is_at(at, *name) {
+            return Some(later);
+        }
+        rest = later;
+    }
+    None
+}
+
+fn content_fault(stack: Stack, fields: &[FieldValue], size: usize) -> Option<JoinFault>
+    ensures { result ≡ first_held (contents stack fields.now size) }
+{
+    match stack {
+        Stack::Ip => ip_content_fault(fields, size),
+        Stack::IpUdp | Stack::IpUdpCoap => udp_content_fault(fields, size),
+    }
+}
+
+fn ip_content_fault(fields: &[FieldValue], size: usize) -> Option<JoinFault>
+    ensures { result ≡ first_held (contents Stack.Ip fields.now size) }
+{
+    if !has_number(fields, FieldName::IpVersion, 6) {
+        return wrong(FieldName::IpVersion);
+    }
+    if size > 65_535 || !has_number(fields, FieldName::IpPayloadLength, size as u64) {
+        return wrong(FieldName::IpPayloadLength);
+    }
+    None
+}
+
+fn udp_content_fault(fields: &[FieldValue], size: usize) -> Option<JoinFault>
+    ensures { result ≡ first_held (contents Stack.IpUdp fields.now size) }
+{
+    if !has_number(fields, FieldName::IpVersion, 6) {
+        return wrong(FieldName::IpVersion);
+    }
+    if !has_number(fields, FieldName::IpNextHeader, 17) {
+        return wrong(FieldName::IpNextHeader);
+    }
+    if size > 65_527 {
+        return wrong(FieldName::IpPayloadLength);
+    }
+    let length = 8 + size as u64;
+    if !has_number(fields, FieldName::IpPayloadLength, length) {
+        return wrong(FieldName::IpPayloadLength);
+    }
+    if !has_number(fields, FieldName::UdpLength, length) {
+        return wrong(FieldName::UdpLength);
+    }
+    None
+}
+
+fn wrong(name: FieldName) -> Option<JoinFault>
+    ensures { result ≡ Some (JoinFault.FieldWrong (at_name name)) }
+{
+    Some(JoinFault::FieldWrong(at_name(name)))
+}
+
+fn has_number(fields: &[FieldValue], name: FieldName, number: u64) -> bool
+    ensures { result ≡ has_number fields.now name number }
+{
+    match value_in(fields, name) {
+        None => false,
+        Some(value) => is_number(value, bits(name), number),
+    }
+}
+
+fn is_number(value: &Bits, width: usize, number: u64) -> bool
+    requires { width ≤ 64 }
+    ensures { result ≡ is_number width number (Some value.now) }
+{
+    value.len() == width && number_of(value.as_slice()) == number
+}

@@ -1,0 +1,17 @@
+//! The fields of IPv6 and UDP headers (RFC 8200, RFC 768): packets to fields and back, and the UDP
+//! checksum.
+#![tactic(auto)]
+
+mod joining;
+pub mod laws;
+mod layout;
+mod parts;
+mod splitting;
+mod sums;
+#[cfg(test)]
+mod tests;
+
+pub use joining::join;
+pub use parts::{JoinFault, Split, SplitFault};
+pub use splitting::split;
+pub use sums::checksum;
