@@ -1,0 +1,8 @@
+//! Whether a rule matches the fields of a packet (RFC 8724 sections 7.2 and 7.3).
+#![tactic(auto)]
+
+mod agreement;
+mod comparison;
+
+pub use comparison::matches;
+pub use rule_model::Computed;
