@@ -1,0 +1,5 @@
+pub mod Data
+pub mod Losses
+pub mod Follows
+pub mod Chains
+pub mod Faults
