@@ -1,14 +1,14 @@
 -- What is written is read back, and what is read is what stands there.
-use Rattle.std.specs.Prelude.{ℕ, ◌≡◌, ◌≢◌, ◌↔◌, ◌⊎◌, ◌+◌, ◌-◌, ◌<◌, ◌≤◌, zero, suc, Bool, true, false, List, [], ◌∷◌, ◌++◌, length, take, drop, map, filter, get_or, AllPairs, Contains, Ok, Err}
+use Rattle.std.specs.Prelude.{ℕ, ◌≡◌, ◌≢◌, ◌↔◌, ◌⊎◌, ◌+◌, ◌-◌, ◌<◌, ◌≤◌, zero, suc, Bool, true, false, List, [], ◌∷◌, ◌++◌, length, take, drop, map, filter, get_or, AllPairs, Contains, Ok}
 use Rattle.std.specs.List.{AllByRecursion}
 use Rattle.std.proofs.Common.{arith, ap, refl, sym, ◌∙◌, subst, inl, inr}
-use Rattle.std.proofs.lemmas.Bool.{cases_Bool, true≢false}
+use Rattle.std.proofs.lemmas.Bool.{cases_Bool, false_from_ne_true, true≢false}
 use Rattle.std.proofs.lemmas.List.{append_assoc, length-append, length-take-le, take-append-drop, drop_at}
 use Rattle.std.proofs.lemmas.List.Elements.{Contains-get_or}
 use Rattle.schc_ids.specs.declared.ends.Direction.{Direction}
 use Rattle.schc_ids.specs.declared.ends.Iids.{Iids}
 use Rattle.schc_ids.specs.declared.faults.UnpackFault.{UnpackFault}
-use Rattle.schc_ids.specs.declared.faults.UnpackFault.TheVariants.{Memory}
+use Rattle.schc_ids.specs.declared.faults.UnpackFault.TheVariants.{UnknownRule, BadResidue, BadPacket, Memory}
 use Rattle.schc_ids.specs.declared.names.FieldAt.{FieldAt}
 use Rattle.schc_ids.specs.Ends.{covers}
 use Rattle.rule_model.specs.declared.value.FieldValue.{FieldValue}
@@ -215,10 +215,25 @@ next-at rule iids direction bits from start fields rest admitted s e h =
 -- where nothing is read, nothing stands
 pub NoneStands-from_refusal : (rule : RuleData) (iids : Iids) (direction : Direction) (bits start : List Bool) (fault : UnpackFault) → IsAdmitted rule → start ≡ bits → IsRefusal fault (restore_at rule iids direction start) → (fault ≡ Memory) ⊎ NoneStands rule iids direction bits
 NoneStands-from_refusal rule iids direction bits start Memory admitted s h = inl refl
-NoneStands-from_refusal rule iids direction bits start fault admitted s h =
+NoneStands-from_refusal rule iids direction bits start (BadResidue entry cause) admitted s h =
     inr
     (λ fields rest stands.
     let read : restore_at rule iids direction bits ≡ Ok (fields, rest) = read-from_Stands rule iids direction fields bits rest admitted stands in
     let same : restore_at rule iids direction start ≡ restore_at rule iids direction bits = ap (restore_at rule iids direction) s in
-    let fails : restore_at rule iids direction start ≡ Err _ = h in
     cc)
+NoneStands-from_refusal rule iids direction bits start (UnknownRule id) admitted s h = absurd h
+NoneStands-from_refusal rule iids direction bits start (BadPacket at) admitted s h = absurd h
+
+own_place : (fields : List FieldValue) (f : FieldValue) (k : ℕ) → AllPairs (λ g h. g.at ≢ h.at) fields → k < length fields → get_or fields k f ≡ f → value_of fields f.at ≡ f.value
+own_place [] f k once l e = absurd (omega arith)
+own_place (g ∷ fields) f zero once l e =
+    let passes : same_field g.at f.at ≡ true = subst (λ (h : FieldValue). same_field g.at h.at ≡ true) e (same_field-itself g.at) in
+    rw passes (ap (λ (h : FieldValue). h.value) e)
+own_place (g ∷ fields) f (suc k) once l e =
+    let differs : g.at ≢ f.at = subst (λ (h : FieldValue). g.at ≢ h.at) e (once 0 (suc k) f (omega arith) l) in
+    let fails : same_field g.at f.at ≡ false = false_from_ne_true (same_field g.at f.at) (λ t. differs (same_field-true g.at f.at t)) in
+    rw fails (own_place fields f k (λ i j d m n. once (suc i) (suc j) d (omega arith) (omega arith)) (omega arith) e)
+
+-- where no name and position stands twice, each field is found by its own, wherever it stands
+pub value_of-own : (fields : List FieldValue) (f : FieldValue) → AllPairs (λ g h. g.at ≢ h.at) fields → Contains fields f → value_of fields f.at ≡ f.value
+value_of-own fields f once among = own_place fields f among.0 once among.1 among.2

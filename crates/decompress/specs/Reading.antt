@@ -47,6 +47,7 @@ byte_size_from size rest = if size == 255 then long_size_at rest else minimal 15
 abbrev pub size_from : ℕ → List Bool → Result (ℕ × List Bool) ResidueFault
 size_from size rest = if size == 15 then then_read (counted_at 8 rest) byte_size_from else Ok (size, rest)
 
+-- a size in its shortest form
 unfoldable pub size_at : List Bool → Result (ℕ × List Bool) ResidueFault
 size_at bits = then_read (counted_at 4 bits) size_from
 

@@ -9,10 +9,11 @@ use Rattle.rule_model.specs.declared.value.FieldValue.{FieldValue}
 use Rattle.decompress.specs.declared.entry.EntryFault.{EntryFault}
 use Rattle.decompress.specs.declared.entry.EntryFault.TheVariants as why
 
--- want of memory, or this fault is what is read
+-- want of memory, or the entry and the cause are those that are read; no other fault
 abbrev pub IsRefusal : UnpackFault → Result (List FieldValue × List Bool) UnpackFault → Type 0
 IsRefusal Memory read = Unit {0}
-IsRefusal fault read = read ≡ Err fault
+IsRefusal (BadResidue entry cause) read = read ≡ Err (BadResidue entry cause)
+IsRefusal _ read = ⊥
 
 -- the same for one entry
 abbrev pub IsEntryRefusal : EntryFault → Result (List Bool × List Bool) ResidueFault → Type 0
