@@ -113,9 +113,9 @@ fn last_edition(alloc: Global) -> Result<Edition, FollowFault> {
     Ok(edition)
 }
 
-const R6: Given = Given(6, b"40", false);
+const RETIRED_6: Given = Given(6, b"40", false);
 
-const R8: Given = Given(8, b"3f", false);
+const RETIRED_8: Given = Given(8, b"3f", false);
 
 const LIVE_6: Given = Given(6, b"40", true);
 
@@ -125,9 +125,9 @@ const OTHER_6: Given = Given(6, b"3e", false);
 /// gone.
 fn losses(alloc: Global) -> Result<[Option<Refusal>; 3], FollowFault> {
     Ok([
-        third(alloc, 3, &[R8, OTHER_6])?,
-        third(alloc, 3, &[LIVE_6, R8])?,
-        third(alloc, 3, &[R8])?,
+        third(alloc, 3, &[RETIRED_8, OTHER_6])?,
+        third(alloc, 3, &[LIVE_6, RETIRED_8])?,
+        third(alloc, 3, &[RETIRED_8])?,
     ])
 }
 
@@ -135,10 +135,10 @@ fn losses(alloc: Global) -> Result<[Option<Refusal>; 3], FollowFault> {
 /// rules.
 fn others(alloc: Global) -> Result<[Option<Refusal>; 4], FollowFault> {
     Ok([
-        third(alloc, 3, &[R6, R8])?,
-        third(alloc, 3, &[R8, R6, R6, R8])?,
-        third(alloc, 4, &[R6, R8])?,
-        third(alloc, 3, &[R6; 201])?,
+        third(alloc, 3, &[RETIRED_6, RETIRED_8])?,
+        third(alloc, 3, &[RETIRED_8, RETIRED_6, RETIRED_6, RETIRED_8])?,
+        third(alloc, 4, &[RETIRED_6, RETIRED_8])?,
+        third(alloc, 3, &[RETIRED_6; 201])?,
     ])
 }
 
