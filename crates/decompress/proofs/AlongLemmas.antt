@@ -22,7 +22,7 @@ use Rattle.rule_model.specs.Cover.{field_of}
 use Rattle.rule_model.specs.Findings.{order_wrong}
 use Rattle.rule_model.specs.Residue.{same_field, value_of, entry_residue, token_bits, msb_bits, restored_value, restored_field}
 use Rattle.rule_model.proofs.SizedLemmas.{Contains-first, Contains-rest}
-use Rattle.decompress.proofs.EntryRowsLemmas.{InOrder, no_later_length}
+use Rattle.rule_model.proofs.EntryRowsLemmas.{InOrder, no_later_length}
 use Rattle.decompress.specs.Reading.{entry_at, with_field, then_entry, restore_from}
 use Rattle.decompress.proofs.EntryLemmas.{FitsKind, SentBy, SentFits, IsRegular, entry_at-again}
 

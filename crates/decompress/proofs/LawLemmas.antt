@@ -17,7 +17,7 @@ use Rattle.rule_model.specs.Cover.{covered, field_of, stack_of}
 use Rattle.rule_model.specs.Findings.{IsAdmitted}
 use Rattle.rule_model.specs.Residue.{same_field, value_of, residue_of, restored_value, restored_field, WidthHolds, IsSendable, IsSized}
 use Rattle.rule_model.proofs.SizedLemmas.{same_field-true, same_field-itself, Contains-first, Contains-rest}
-use Rattle.decompress.proofs.EntryRowsLemmas.{EntryHolds-from_IsAdmitted, InOrder-from_IsAdmitted, AreApart, AreApart-from_IsAdmitted}
+use Rattle.rule_model.proofs.EntryRowsLemmas.{EntryHolds-from_IsAdmitted, InOrder-from_IsAdmitted, AreApart, AreApart-from_IsAdmitted}
 use Rattle.decompress.specs.Reading.{restore_at}
 use Rattle.decompress.specs.Refusals.{IsRefusal}
 use Rattle.decompress.specs.Stands.{Stands, NoneStands}

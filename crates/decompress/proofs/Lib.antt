@@ -1,4 +1,3 @@
-pub mod EntryRowsLemmas
 pub mod TokenLemmas
 pub mod ReadLemmas
 pub mod EntryLemmas

@@ -24,7 +24,7 @@ use Rattle.rule_model.specs.Matches.{OperatorHolds, RestoredHolds, Agrees, Match
 use Rattle.rule_model.specs.Residue.{same_field, value_of, index_of, first_target, residue_of, token_bits, restored_by, restored_value, restored_field, restored_fields, IsSized}
 use Rattle.rule_model.proofs.ResidueLemmas.{same_bits-true, same_bits-itself, index_of-cases}
 use Rattle.rule_model.proofs.SizedLemmas.{same_field-true, same_field-itself, value_of-cases}
-use Rattle.decompress.proofs.EntryRowsLemmas.{position_none, EntryHolds, EntryHolds-from_IsAdmitted, InOrder-from_IsAdmitted}
+use Rattle.rule_model.proofs.EntryRowsLemmas.{position_none, EntryHolds, EntryHolds-from_IsAdmitted, InOrder-from_IsAdmitted}
 use Rattle.decompress.specs.Reading.{restore_at}
 use Rattle.decompress.proofs.EntryLemmas.{SentFits, some_at}
 use Rattle.decompress.proofs.AlongLemmas.{token_length, value_of-lacks, Lacks-restored, again_along}

@@ -21,7 +21,7 @@ use Rattle.rule_model.specs.Data.{EntryData}
 use Rattle.rule_model.specs.Findings.{is_length_of, is_allowed_pair, is_count_right, all_different, has_length, has_value, is_msb_wrong, is_computed_by}
 use Rattle.rule_model.specs.Matches.{LengthHolds}
 use Rattle.rule_model.specs.Residue.{index_of, WidthHolds, TokenHolds, SizeHolds, IsSendable, first_target, restored_by, restored_value}
-use Rattle.decompress.proofs.EntryRowsLemmas.{EntryHolds}
+use Rattle.rule_model.proofs.EntryRowsLemmas.{EntryHolds}
 use Rattle.decompress.proofs.EntryLemmas.{FitsKind, SentBy, SentFits, RegularBy, some_at, index_within}
 use Rattle.decompress.proofs.AlongLemmas.{IsSound}
 

@@ -16,7 +16,7 @@ use Rattle.rule_model.specs.Cover.{field_of}
 use Rattle.rule_model.specs.Findings.{order_wrong}
 use Rattle.rule_model.specs.Residue.{same_field, value_of, entry_residue, restored_value, restored_field}
 use Rattle.rule_model.proofs.SizedLemmas.{same_field-true, same_field-itself}
-use Rattle.decompress.proofs.EntryRowsLemmas.{InOrder, AreApart, other_field}
+use Rattle.rule_model.proofs.EntryRowsLemmas.{InOrder, AreApart, other_field}
 use Rattle.decompress.specs.Reading.{entry_at, with_field, then_entry, restore_from}
 use Rattle.decompress.proofs.ReadLemmas.{ok_parts}
 use Rattle.decompress.proofs.EntryLemmas.{SentFits, entry_at-takes}

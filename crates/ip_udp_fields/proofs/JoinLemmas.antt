@@ -13,11 +13,11 @@ use Rattle.schc_ids.specs.declared.names.FieldName.{FieldName}
 use Rattle.schc_ids.specs.declared.names.FieldName.TheVariants.{IpVersion, IpPayloadLength, IpNextHeader, UdpLength}
 use Rattle.schc_ids.specs.Names.{fields_of_stack}
 use Rattle.rule_model.specs.declared.value.FieldValue.{FieldValue}
-use Rattle.ip_udp_fields.specs.First.{first_held}
+use Rattle.rule_model.specs.First.{first_held}
 use Rattle.ip_udp_fields.specs.Layout.{IsWithoutCoap, header_size, place_of, bits_of, piece, number_in}
 use Rattle.ip_udp_fields.specs.Fields.{at_name, field_in, fields_in, IsIpv6, IsUdp, IsPacketOf, FieldsOf}
 use Rattle.ip_udp_fields.specs.Join.{value_in, value_of, presence, order, is_number, has_number, contents, join_refusal, values_in, header_bits, mirrored}
-use Rattle.ip_udp_fields.proofs.FirstLemmas.{first_held-none, first_held-front, first_held-append_none}
+use Rattle.rule_model.proofs.FirstLemmas.{first_held-none, first_held-front, first_held-append_none}
 use Rattle.ip_udp_fields.proofs.OrderLemmas.{are_distinct, with_value, order-all, presence-all}
 use Rattle.ip_udp_fields.proofs.SpanLemmas.{span-headers, HaveWidths, length-values_in, pieces-values_in, unmirror, mirror}
 

@@ -1,5 +1,4 @@
 pub mod PieceLemmas
-pub mod FirstLemmas
 pub mod PlaceLemmas
 pub mod RefusalLemmas
 pub mod FieldsLemmas

@@ -7,12 +7,12 @@ use Rattle.schc_ids.specs.declared.names.FieldName.{FieldName}
 use Rattle.schc_ids.specs.declared.names.FieldAt.{FieldAt}
 use Rattle.schc_ids.specs.Names.{same_name}
 use Rattle.rule_model.specs.declared.value.FieldValue.{FieldValue}
-use Rattle.ip_udp_fields.specs.declared.parts.JoinFault.TheVariants.{FieldWrong}
-use Rattle.ip_udp_fields.specs.First.{first_held}
+use Rattle.rule_model.specs.declared.parts.JoinFault.TheVariants.{FieldWrong}
+use Rattle.rule_model.specs.First.{first_held}
 use Rattle.ip_udp_fields.specs.Layout.{bits_of}
 use Rattle.ip_udp_fields.specs.Fields.{at_name}
 use Rattle.ip_udp_fields.specs.Join.{is_at, value_in, value_of, presence_of, presence, names_after, order}
-use Rattle.ip_udp_fields.proofs.FirstLemmas.{first_held-none, first_held-front, first_held-append_none}
+use Rattle.rule_model.proofs.FirstLemmas.{first_held-none, first_held-front, first_held-append_none}
 use Rattle.ip_udp_fields.proofs.NameLemmas.{same_name-true}
 
 first_held-next : {A : Type 0} (t : Bool) (x : A) (rest : List (Bool × A)) → first_held ((t, x) ∷ rest) ≡ None → (t ≡ false) × (first_held rest ≡ None)

@@ -6,10 +6,10 @@ use Rattle.schc_ids.specs.declared.names.Stack.{Stack}
 use Rattle.schc_ids.specs.declared.names.FieldName.{FieldName}
 use Rattle.schc_ids.specs.Names.{fields_of_stack}
 use Rattle.rule_model.specs.declared.value.FieldValue.{FieldValue}
-use Rattle.ip_udp_fields.specs.declared.parts.JoinFault.{JoinFault}
-use Rattle.ip_udp_fields.specs.First.{first_held}
+use Rattle.rule_model.specs.declared.parts.JoinFault.{JoinFault}
+use Rattle.rule_model.specs.First.{first_held}
 use Rattle.ip_udp_fields.specs.Join.{presence_of, presence, order, contents, join_refusal}
-use Rattle.ip_udp_fields.proofs.FirstLemmas.{first_held-append_some, first_held-append_none}
+use Rattle.rule_model.proofs.FirstLemmas.{first_held-append_some, first_held-append_none}
 
 at_index : (fields : List FieldValue) (names : List FieldName) (i : ℕ) (d : FieldName) → i < length names → first_held (presence fields (drop i names)) ≡ first_held (presence_of fields (get_or names i d) ++ presence fields (drop (i + 1) names))
 at_index fields names i d h =

@@ -6,10 +6,10 @@ use Rattle.ip_udp_fields.specs.Layout.{IsWithoutCoap, header_size, number_in}
 use Rattle.ip_udp_fields.specs.Fields.{IsIpv6, IsUdp, IsPacketOf}
 use Rattle.schc_ids.specs.declared.names.Stack.{Stack}
 use Rattle.schc_ids.specs.declared.names.Stack.TheVariants as stack
-use Rattle.ip_udp_fields.specs.declared.parts.SplitFault.{SplitFault}
-use Rattle.ip_udp_fields.specs.First.{first_held}
+use Rattle.rule_model.specs.declared.parts.SplitFault.{SplitFault}
+use Rattle.rule_model.specs.First.{first_held}
 use Rattle.ip_udp_fields.specs.Refusals.{ip_refusals, udp_refusals, refusal}
-use Rattle.ip_udp_fields.proofs.FirstLemmas.{first_held-append_some, first_held-append_none, first_held-front, first_held-none}
+use Rattle.rule_model.proofs.FirstLemmas.{first_held-append_some, first_held-append_none, first_held-front, first_held-none}
 
 pub refusal-ip : (of : Stack) (packet : List ℕ) (fault : SplitFault) → first_held (ip_refusals packet) ≡ Some fault → refusal of packet ≡ Some fault
 unfolding refusal

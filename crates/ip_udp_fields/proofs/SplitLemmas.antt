@@ -12,12 +12,12 @@ use Rattle.schc_ids.specs.declared.names.Stack.TheVariants as stack
 use Rattle.schc_ids.specs.declared.names.FieldName.{FieldName}
 use Rattle.schc_ids.specs.Names.{fields_of_stack}
 use Rattle.rule_model.specs.declared.value.FieldValue.{FieldValue}
-use Rattle.ip_udp_fields.specs.First.{first_held}
+use Rattle.rule_model.specs.First.{first_held}
 use Rattle.ip_udp_fields.specs.Layout.{IsWithoutCoap, header_size, place_of, bits_of, piece, number_in}
 use Rattle.ip_udp_fields.specs.Fields.{fields_in, IsIpv6, IsUdp, IsPacketOf, FieldsOf}
 use Rattle.ip_udp_fields.specs.Refusals.{ip_refusals, udp_refusals, refusal}
 use Rattle.ip_udp_fields.specs.Join.{value_in, value_of, presence_of, presence, order, is_number, contents, join_refusal, values_in}
-use Rattle.ip_udp_fields.proofs.FirstLemmas.{first_held-from_none, first_held-append_none}
+use Rattle.rule_model.proofs.FirstLemmas.{first_held-from_none, first_held-append_none}
 use Rattle.ip_udp_fields.proofs.PlaceLemmas.{is_within, fields-within}
 use Rattle.ip_udp_fields.proofs.RefusalLemmas.{refusal-is_packet, header_size-is_packet}
 use Rattle.ip_udp_fields.proofs.SpanLemmas.{span-headers, values_in-pieces, mirror}
@@ -62,7 +62,7 @@ lengths of way packet (name ∷ names) l w =
 not_same : (a b : ℕ) → a ≡ b → not (a == b) ≡ false
 not_same a b e = ap not (eq-eqb a b e)
 
-present : (fields : List FieldValue) (v : FieldName → List Bool) (names : List FieldName) → AllByRecursion (λ n. value_in fields n ≡ Some (v n)) names → AllByRecursion (λ n. length (v n) ≡ bits_of n) names → first_held (presence fields names) ≡ None
+pub present : (fields : List FieldValue) (v : FieldName → List Bool) (names : List FieldName) → AllByRecursion (λ n. value_in fields n ≡ Some (v n)) names → AllByRecursion (λ n. length (v n) ≡ bits_of n) names → first_held (presence fields names) ≡ None
 present fields v [] f l = refl
 present fields v (name ∷ names) f l =
     let absent : is_none (value_in fields name) ≡ false = ap is_none f.0 in

@@ -21,9 +21,9 @@ use Rattle.schc_ids.specs.declared.names.FieldName.TheVariants.{
 use Rattle.schc_ids.specs.declared.names.FieldAt.{FieldAt}
 use Rattle.schc_ids.specs.Names.{same_name, fields_of_stack}
 use Rattle.rule_model.specs.declared.value.FieldValue.{FieldValue}
-use Rattle.ip_udp_fields.specs.declared.parts.JoinFault.{JoinFault}
-use Rattle.ip_udp_fields.specs.declared.parts.JoinFault.TheVariants.{FieldAbsent, FieldWrong}
-use Rattle.ip_udp_fields.specs.First.{first_held}
+use Rattle.rule_model.specs.declared.parts.JoinFault.{JoinFault}
+use Rattle.rule_model.specs.declared.parts.JoinFault.TheVariants.{FieldAbsent, FieldWrong}
+use Rattle.rule_model.specs.First.{first_held}
 use Rattle.ip_udp_fields.specs.Layout.{bits_of}
 use Rattle.ip_udp_fields.specs.Fields.{at_name}
 

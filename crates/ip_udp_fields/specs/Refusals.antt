@@ -2,10 +2,10 @@
 use Rattle.std.specs.Prelude.{ℕ, ◌-◌, ◌==◌, Bool, not, List, [], ◌∷◌, ◌++◌, length, nat_lt, Option}
 use Rattle.schc_ids.specs.declared.names.Stack.{Stack}
 use Rattle.schc_ids.specs.declared.names.Stack.TheVariants as stack
-use Rattle.ip_udp_fields.specs.declared.parts.SplitFault.{SplitFault}
-use Rattle.ip_udp_fields.specs.declared.parts.SplitFault.TheVariants.{Short, NotIpv6, LengthWrong, NotUdp}
+use Rattle.rule_model.specs.declared.parts.SplitFault.{SplitFault}
+use Rattle.rule_model.specs.declared.parts.SplitFault.TheVariants.{Short, NotIpv6, LengthWrong, NotUdp}
 use Rattle.ip_udp_fields.specs.Layout.{number_in}
-use Rattle.ip_udp_fields.specs.First.{first_held}
+use Rattle.rule_model.specs.First.{first_held}
 
 -- in their order, the conditions under which a packet isn't one of IPv6 (RFC 8200, section 3)
 abbrev pub ip_refusals : List ℕ → List (Bool × SplitFault)

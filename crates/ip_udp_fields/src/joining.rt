@@ -4,7 +4,7 @@ ghost use Rattle.std.specs.Prelude.{ℕ, ◌≡◌, ◌+◌, ◌*◌, ◌≤◌,
 ghost use Rattle.std.specs.Option.{option_copied, option_map};
 ghost use Rattle.schc_ids.specs.Names.{fields_of_stack};
 ghost use Rattle.schc_bits.specs.Bits.{AreBytes, padded, bytes_of};
-ghost use Rattle.ip_udp_fields.specs.First.{first_held};
+ghost use Rattle.rule_model.specs.First.{first_held};
 ghost use Rattle.ip_udp_fields.specs.Layout.{IsWithoutCoap, header_size};
 ghost use Rattle.ip_udp_fields.specs.Fields.{FieldsOf, at_name};
 ghost use Rattle.ip_udp_fields.specs.Join.{
@@ -25,8 +25,7 @@ ghost use Rattle.ip_udp_fields.specs.Join.{
 };
 
 use crate::layout::{bits, mirrored};
-use crate::parts::JoinFault;
-use rule_model::{FieldValue, Fields};
+use rule_model::{FieldValue, Fields, JoinFault};
 use schc_bits::{Bits, Octets, number_of};
 use schc_ids::{Direction, FieldAt, FieldName, Stack, always_present};
 use std::alloc::{AllocError, Global};
@@ -57,15 +56,20 @@ pub fn join(
     let listed = fields.as_slice();
     match join_refusal(stack, listed, payload.len()) {
         Some(fault) => Err(fault),
-        None => match joined(alloc, stack, direction, listed, payload) {
+        None => match join_by_name(alloc, stack, direction, listed, payload) {
             Ok(packet) => Ok(packet),
             Err(_) => Err(JoinFault::Memory),
         },
     }
 }
 
+/// The headers of the fields, in whatever order these are listed, and the payload behind them. Each
+/// field is found by its name, and nothing is tried: a field that isn't among them takes no bits.
+///
+/// # Errors
+/// Want of memory.
 #[tactic(auto, unfolding(crate::specs::Join::header_bits))]
-fn joined(
+pub fn join_by_name(
     alloc: Global,
     stack: Stack,
     direction: Direction,
@@ -193,7 +197,11 @@ fn names_after(at: FieldAt, names: &[FieldName]) -> Option<&[FieldName]>
     None
 }
 
-fn content_fault(stack: Stack, fields: &[FieldValue], size: usize) -> Option<JoinFault>
+/// What is wrong with the values of the fields, where they are joined with a payload of this many
+/// bytes: the version is 6; with UDP the next header is 17; the bytes after the IPv6 header are at
+/// most 65,535; the payload length and the UDP length are their number. The first field that is
+/// wrong is named.
+pub fn content_fault(stack: Stack, fields: &[FieldValue], size: usize) -> Option<JoinFault>
     ensures { result ≡ first_held (contents stack fields.now size) }
 {
     match stack {
@@ -242,7 +250,8 @@ fn wrong(name: FieldName) -> Option<JoinFault>
     Some(JoinFault::FieldWrong(at_name(name)))
 }
 
-fn has_number(fields: &[FieldValue], name: FieldName, number: u64) -> bool
+/// Whether the field of the name is there, and has its width and this number.
+pub fn has_number(fields: &[FieldValue], name: FieldName, number: u64) -> bool
     ensures { result ≡ has_number fields.now name number }
 {
     match value_in(fields, name) {

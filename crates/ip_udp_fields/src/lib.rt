@@ -5,13 +5,12 @@
 mod joining;
 pub mod laws;
 mod layout;
-mod parts;
 mod splitting;
 mod sums;
 #[cfg(test)]
 mod tests;
 
-pub use joining::join;
-pub use parts::{JoinFault, Split, SplitFault};
+pub use joining::{content_fault, has_number, join, join_by_name};
+pub use rule_model::{JoinFault, Split, SplitFault};
 pub use splitting::split;
 pub use sums::checksum;

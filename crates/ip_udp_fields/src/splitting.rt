@@ -3,7 +3,7 @@
 ghost use Rattle.std.specs.Prelude.{◌≡◌, ◌+◌, ◌*◌, ◌≤◌, ◌<◌, ◌⊎◌, length, map, take, IfOk, IfErr};
 ghost use Rattle.schc_ids.specs.Names.{fields_of_stack};
 ghost use Rattle.schc_bits.specs.Bits.{octets};
-ghost use Rattle.ip_udp_fields.specs.First.{first_held};
+ghost use Rattle.rule_model.specs.First.{first_held};
 ghost use Rattle.ip_udp_fields.specs.Layout.{IsWithoutCoap, header_size};
 ghost use Rattle.ip_udp_fields.specs.Fields.{FieldsOf, field_within, fields_in};
 ghost use Rattle.ip_udp_fields.specs.Refusals.{ip_refusals, udp_refusals, refusal};
@@ -11,8 +11,7 @@ ghost use Rattle.ip_udp_fields.specs.Refusals.{ip_refusals, udp_refusals, refusa
 use crate::layout::{
     IP_HEADER, IP_UDP_HEADER, bits, header_size, one_byte, place, two_bytes, version,
 };
-use crate::parts::{Split, SplitFault};
-use rule_model::{FieldValue, Fields};
+use rule_model::{FieldValue, Fields, Split, SplitFault};
 use schc_bits::{Bits, ItemList};
 use schc_ids::{Direction, FieldAt, Stack, always_present};
 use std::alloc::{AllocError, Global};

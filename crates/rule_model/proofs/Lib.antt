@@ -1,3 +1,6 @@
 pub mod FindingsLemmas
 pub mod ResidueLemmas
 pub mod SizedLemmas
+pub mod FirstLemmas
+pub mod EntryRowsLemmas
+pub mod TestLemmas

@@ -4,3 +4,8 @@ pub mod Findings
 pub mod Kept
 pub mod Matches
 pub mod Residue
+pub mod First
+pub mod SplitData
+pub mod RawData
+pub mod FindingNames
+pub mod Tests

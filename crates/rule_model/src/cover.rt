@@ -73,13 +73,15 @@ pub fn is_lossy(operator: Operator, action: Action) -> bool
     }
 }
 
-fn is_compute(action: Action) -> bool
+/// Whether the action computes the value at the other end.
+pub fn is_compute(action: Action) -> bool
     ensures { result ≡ is_compute action }
 {
     action == Action::Compute
 }
 
-fn computes_checksum(rule: &Rule, direction: Direction) -> bool
+/// Whether the UDP checksum is computed in the direction.
+pub fn computes_checksum(rule: &Rule, direction: Direction) -> bool
     ensures { result ≡ computes_checksum rule.now direction }
 {
     rule.entries

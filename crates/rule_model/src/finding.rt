@@ -2,6 +2,7 @@
 
 ghost use Rattle.std.specs.Prelude.{◌≡◌};
 ghost use Rattle.rule_model.specs.Findings.{all_rows, number_of};
+ghost use Rattle.rule_model.specs.FindingNames.{finding_name};
 
 /// A finding: its number, the RuleID it is about, and the entry, numbered from 1, or 0 where it is
 /// about no single entry.
@@ -10,6 +11,36 @@ pub struct Finding {
     pub number: u8,
     pub id: u16,
     pub entry: u64,
+}
+
+impl Finding {
+    /// The finding's name, as it is printed.
+    #[tactic(auto, unfolding(crate::specs::FindingNames::finding_name))]
+    pub fn name(self) -> &'static str
+        ensures { result.now ≡ finding_name self.number }
+    {
+        match self.number {
+            1 => "id-out-of-range",
+            2 => "id-reserved",
+            3 => "id-twice",
+            4 => "mixed-stack",
+            5 => "field-twice",
+            6 => "serves-no-direction",
+            7 => "shape-wrong",
+            8 => "pair-not-allowed",
+            9 => "target-wrong",
+            10 => "msb-wrong",
+            11 => "not-droppable",
+            12 => "compute-wrong",
+            13 => "order-wrong",
+            14 => "number-not-next",
+            15 => "id-gone",
+            16 => "meaning-changed",
+            17 => "revived",
+            18 => "too-large",
+            _ => "unknown",
+        }
+    }
 }
 
 /// The rows of the table of findings that are about one rule.

@@ -5,13 +5,19 @@ mod admitted;
 mod cover;
 mod finding;
 mod lookup;
+mod parts;
+mod raw;
 mod rule;
 mod value;
 
 pub use admitted::Admitted;
-pub use cover::{dropped_fields, has_layer, is_lossy, serves, stack_of};
+pub use cover::{
+    computes_checksum, dropped_fields, has_layer, is_compute, is_lossy, serves, stack_of,
+};
 pub use finding::{Finding, Row};
 pub use lookup::{index_width, value_of};
+pub use parts::{JoinFault, Split, SplitFault};
+pub use raw::{DeviceLine, RawEdition, RawRule};
 pub use rule::{Action, Entries, Entry, Length, Operator, Rule, Targets};
 pub use value::{Computed, FieldValue, Fields};
 

@@ -7,7 +7,9 @@ mod faults;
 mod names;
 #[cfg(test)]
 mod tests;
+mod texts;
 
 pub use ends::{DirInd, Direction, EndParams, Iids, Role, covers, share_direction};
 pub use faults::{ResidueFault, UnpackFault};
 pub use names::{FieldAt, FieldName, Layer, Stack, always_present, width};
+pub use texts::{name_of_text, text_of};

@@ -1,6 +1,6 @@
 use Rattle.std.proofs.Common.{◌≡◌, drop}
 use Rattle.schc_ids.specs.Names.{fields_of_stack}
-use Rattle.ip_udp_fields.specs.First.{first_held}
+use Rattle.rule_model.specs.First.{first_held}
 use Rattle.ip_udp_fields.specs.Join.{presence}
 use Rattle.ip_udp_fields.proofs.joining.presence_fault.Given as goal
 

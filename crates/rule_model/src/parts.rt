@@ -1,6 +1,6 @@
 //! What a packet is split into, and why it can't be split or made.
 
-use rule_model::Fields;
+use crate::value::Fields;
 use schc_ids::FieldAt;
 use std::marker::Model;
 
@@ -14,7 +14,7 @@ pub struct Split {
 }
 
 impl Model for Split {
-    ghost use Rattle.ip_udp_fields.specs.SplitData.{SplitData};
+    ghost use Rattle.rule_model.specs.SplitData.{SplitData};
 
     ghost Value = { SplitData };
 

@@ -3,7 +3,7 @@ use Rattle.std.specs.Prelude.{◌≡◌, Bool, true, false, List, [], ◌∷◌,
 use Rattle.std.specs.List.{AllByRecursion}
 use Rattle.std.proofs.Common.{refl, sym}
 use Rattle.std.proofs.lemmas.Bool.{false≢true}
-use Rattle.ip_udp_fields.specs.First.{first_held}
+use Rattle.rule_model.specs.First.{first_held}
 
 pub first_held-append_some : {A : Type 0} (these those : List (Bool × A)) (found : A) → first_held these ≡ Some found → first_held (these ++ those) ≡ Some found
 first_held-append_some [] those found e = absurd (cc)
