@@ -51,6 +51,15 @@ Follows-from_none old number rules next within once kept = record {
   keeps_retired = λ id. second-part (λ was. HasSameRule was (lookup rules id)) (λ was. StaysRetired was (lookup rules id)) (lookup old.rules id) (kept id);
 }
 
+both-parts : (A B : Listed → Type 0) (o : Option Listed) → IfSome o A → IfSome o B → IfSome o (λ was. A was × B was)
+both-parts A B None h k = tt
+both-parts A B (Some was) h k = (h, k)
+
+-- an edition that follows keeps each RuleID
+pub KeepsId-from_follows : (old new : EditionData) → Follows old new → (id : ℕ) → KeepsId old.rules new.rules id
+KeepsId-from_follows old new follows id =
+    both-parts (λ was. HasSameRule was (lookup new.rules id)) (λ was. StaysRetired was (lookup new.rules id)) (lookup old.rules id) (follows.keeps_meanings id) (follows.keeps_retired id)
+
 -- a RuleID that repeats an earlier one stands twice
 repeat-twice : (rules : List Listed) (id : ℕ) → IsFirstRepeat rules id → NoIdTwice rules → ⊥
 repeat-twice rules id r once = repeat-at rules id r.place (slice_get rules r.place) refl r.stands r.stood (once id)
@@ -102,7 +111,7 @@ found-lost old number rules found id kind given before loss within g b next limi
     (lost id loss (omega arith) (limits.0 e) once lowest))
 
 -- the same of the edition whose number and rules were read
-IsFirstFinding-at : (old : EditionData) (n number : ℕ) (rs listed rules : List Listed) (found : Finding) → n ≡ old.number → rs ≡ old.rules → listed ≡ rules → IsFirstFinding (record { number = n; rules = rs }) number listed found → IsFirstFinding old number rules found
+pub IsFirstFinding-at : (old : EditionData) (n number : ℕ) (rs listed rules : List Listed) (found : Finding) → n ≡ old.number → rs ≡ old.rules → listed ≡ rules → IsFirstFinding (record { number = n; rules = rs }) number listed found → IsFirstFinding old number rules found
 IsFirstFinding-at old n number rs listed rules found a b c first =
     subst (λ xs. IsFirstFinding old number xs found) c
     (subst (λ xs. IsFirstFinding (record { number = old.number; rules = xs }) number listed found) b

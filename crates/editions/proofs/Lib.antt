@@ -2,3 +2,8 @@ pub mod LookupLemmas
 pub mod OrderLemmas
 pub mod FollowLemmas
 pub mod ChainLemmas
+pub mod SameRuleLemmas
+pub mod RepeatLemmas
+pub mod LossLemmas
+pub mod ByIdLemmas
+pub mod FollowedLemmas

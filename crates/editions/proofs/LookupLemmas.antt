@@ -47,11 +47,11 @@ KeepsId-from_kept new (x ∷ xs) k id =
     KeepsId-cases new x xs id (x.rule.id == id) refl k.0 (KeepsId-from_kept new xs k.1 id)
 
 -- the rules after the first one ascend too
-IsAscending-tail : (x : Listed) (xs : List Listed) → IsAscending (x ∷ xs) → IsAscending xs
+pub IsAscending-tail : (x : Listed) (xs : List Listed) → IsAscending (x ∷ xs) → IsAscending xs
 IsAscending-tail x xs asc i j d h below = asc (suc i) (suc j) d (omega arith) (omega arith)
 
 -- a RuleID that is no higher than the first one stands at most there
-lookup-below : (x : Listed) (xs : List Listed) (id : ℕ) → IsAscending (x ∷ xs) → id ≤ x.rule.id → lookup xs id ≡ None
+pub lookup-below : (x : Listed) (xs : List Listed) (id : ℕ) → IsAscending (x ∷ xs) → id ≤ x.rule.id → lookup xs id ≡ None
 lookup-below x [] id asc h = refl
 lookup-below x (y ∷ ys) id asc h =
     let above : x.rule.id < y.rule.id = asc 0 1 x (omega arith) (omega arith) in

@@ -1,5 +1,6 @@
 -- Why rules don't make the next edition.
-use Rattle.std.specs.Prelude.{ℕ, ◌≡◌, List}
+use Rattle.std.specs.Prelude.{ℕ, ◌≡◌, List, Result, Err}
+use Rattle.rule_model.specs.declared.finding.Finding.{Finding}
 use Rattle.std.specs.List.Sorted.{IsPermutation}
 use Rattle.editions.specs.declared.listed.Listed.{Listed}
 use Rattle.editions.specs.declared.edition.FollowFault.{FollowFault}
@@ -20,3 +21,8 @@ IsFaultOf old number rules Memory = Unit {0}
 abbrev pub IsRightRefusal : EditionData → ℕ → List Listed → FollowFault → Type 0
 IsRightRefusal old number rules (Found finding) = (new : EditionData) → IsMadeOf number rules new → ¬ Follows old new
 IsRightRefusal old number rules Memory = Unit {0}
+
+-- a finding is the answer's, and want of memory may come at any answer
+abbrev pub IsFindingOf : Result EditionData Finding → FollowFault → Type 0
+IsFindingOf answer (Found finding) = answer ≡ Err finding
+IsFindingOf answer Memory = Unit {0}

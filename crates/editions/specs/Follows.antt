@@ -43,7 +43,8 @@ pub record IsFirstRepeat (rules : List Listed) (id : ℕ) : Type 0 where
   pub stood : 1 ≤ count_by (λ listed. listed.rule.id == id) (take place rules)
   pub first : NoIdTwice (take place rules)
 
-abbrev finding : ℕ → ℕ → Finding
+-- a finding that is about no single entry
+abbrev pub finding : ℕ → ℕ → Finding
 finding number id = record { number = number; id = id; entry = 0 }
 
 -- the finding that keeps the rules with this number from following the old edition: the first that holds, in this order
