@@ -1,0 +1,9 @@
+pub mod Data
+pub mod Values
+pub mod Words
+pub mod Digits
+pub mod Layout
+pub mod Files
+pub mod Texts
+pub mod Written
+pub mod Answers

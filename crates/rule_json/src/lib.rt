@@ -1,0 +1,21 @@
+//! Rule text: editions, contexts and work as JSON (RFC 8259), read and written.
+#![tactic(auto)]
+
+mod context;
+mod digits;
+mod entry;
+mod fault;
+mod reading;
+#[cfg(test)]
+mod tests;
+mod values;
+mod words;
+mod work;
+mod writing;
+
+pub use context::ContextFile;
+pub use fault::JsonFault;
+pub use reading::{read_context, read_edition, read_work};
+pub use rule_model::{DeviceLine, RawEdition, RawRule};
+pub use work::{Packet, WorkFile};
+pub use writing::write_edition;
