@@ -1,0 +1,17 @@
+pub mod NumberLemmas
+pub mod OptionLemmas
+pub mod OptionsLemmas
+pub mod MessageLemmas
+pub mod TurnLemmas
+pub mod SplitLemmas
+pub mod RankLemmas
+pub mod FieldsLemmas
+pub mod JoinLemmas
+pub mod PresenceLemmas
+pub mod SizeLemmas
+pub mod WriteLemmas
+pub mod BytesLemmas
+pub mod AgainLemmas
+pub mod MadeLemmas
+pub mod FactLemmas
+pub mod CountLemmas
