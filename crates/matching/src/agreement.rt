@@ -1,58 +1,75 @@
 //! An entry against the value of its field.
 
-ghost use Rattle.std.specs.Prelude.{ℕ, ◌≡◌, ◌^◌, ◌<◌, ◌≤◌, ◌↔◌, List, Bool, length, take, IsTrue, IsSomeAnd, Some, Contains, slice_get};
+ghost use Rattle.std.specs.Prelude.{ℕ, ◌≡◌, ◌^◌, ◌<◌, ◌≤◌, false, length, take, slice_get};
+ghost use Rattle.std.specs.List.{list_any};
+ghost use Rattle.std.specs.Option.{option_map_or};
 ghost use Rattle.schc_bits.specs.Bits.{number_bits};
-ghost use Rattle.rule_model.specs.Matches.{
-  OperatorHolds,
-  LengthHolds,
-  computed_value,
-  RestoredHolds,
-  Agrees,
+ghost use Rattle.rule_model.specs.Findings.{same_bits};
+ghost use Rattle.rule_model.specs.Matches.{computed_value};
+ghost use Rattle.rule_model.specs.Tests.{
+  begins_as,
+  operator_holds,
+  length_holds,
+  restored_holds,
+  agrees,
 };
 
 use rule_model::{Action, Computed, Entry, Length, Operator};
 use schc_bits::{Bits, number_of, same_items};
 use schc_ids::{FieldName, Iids};
 
+fn same_bits(these: &[bool], those: &[bool]) -> bool
+    ensures { result ≡ same_bits these.now those.now }
+{
+    same_items(these, those)
+}
+
 /// Whether the value is the first target.
-fn is_first(targets: &[Bits], value: &Bits) -> bool
-    ensures { IsTrue result ↔ (slice_get targets.now 0 ≡ Some value.now) }
+fn is_first(targets: &[Bits], value: &[bool]) -> bool
+    ensures { result ≡ option_map_or (λ target. same_bits target value.now) (slice_get targets.now 0) false }
 {
     match targets {
-        [target, ..] => target.same(value),
+        [target, ..] => same_bits(target.as_slice(), value),
         [] => false,
     }
 }
 
-/// Whether the value and the target have at least this many bits, and begin with the same ones.
-fn begin_alike(count: usize, target: &Bits, value: &Bits) -> bool
-    ensures { IsTrue result ↔ ((count ≤ length value.now) × (take count value.now ≡ take count target.now)) }
+/// The first bits, this many of them.
+fn front_of(bits: &[bool], count: usize) -> &[bool]
+    ensures { result.now ≡ take count bits.now }
 {
-    count <= value.len()
-        && count <= target.len()
-        && same_items(&value.as_slice()[..count], &target.as_slice()[..count])
+    &bits[..count.min(bits.len())]
 }
 
-/// Whether the first `count` bits of the value are those of the first target.
-fn begins_as_first(count: usize, targets: &[Bits], value: &Bits) -> bool
-    ensures { IsTrue result ↔ IsSomeAnd (slice_get targets.now 0) (λ target. (count ≤ length value.now) × (take count value.now ≡ take count target)) }
+/// Whether the value has at least this many bits, and its first ones are those of the target.
+fn begins_as(count: usize, value: &[bool], target: &[bool]) -> bool
+    ensures { result ≡ begins_as count value.now target.now }
+{
+    count <= value.len() && same_bits(front_of(target, count), front_of(value, count))
+}
+
+/// Whether the first bits of the value are those of the first target.
+fn begins_as_first(count: usize, targets: &[Bits], value: &[bool]) -> bool
+    ensures { result ≡ option_map_or (begins_as count value.now) (slice_get targets.now 0) false }
 {
     match targets {
-        [target, ..] => begin_alike(count, target, value),
+        [target, ..] => begins_as(count, value, target.as_slice()),
         [] => false,
     }
 }
 
 /// Whether the value is one of the targets.
-fn is_one_of(targets: &[Bits], value: &Bits) -> bool
-    ensures { IsTrue result ↔ Contains targets.now value.now }
+fn is_one_of(targets: &[Bits], value: &[bool]) -> bool
+    ensures { result ≡ list_any (λ target. same_bits target value.now) targets.now }
 {
-    targets.iter().any(|target| target.same(value))
+    targets
+        .iter()
+        .any(|target| same_bits(target.as_slice(), value))
 }
 
 /// Whether the matching operator holds of the value (RFC 8724 section 7.3).
-fn operator_holds(operator: Operator, targets: &[Bits], value: &Bits) -> bool
-    ensures { IsTrue result ↔ OperatorHolds operator targets.now value.now }
+pub fn operator_holds(operator: Operator, targets: &[Bits], value: &[bool]) -> bool
+    ensures { result ≡ operator_holds operator targets.now value.now }
 {
     match operator {
         Operator::Equal => is_first(targets, value),
@@ -64,7 +81,7 @@ fn operator_holds(operator: Operator, targets: &[Bits], value: &Bits) -> bool
 
 /// Whether the value of an option has the length that its entry fixes.
 fn length_holds(name: FieldName, length: Length, value: &Bits) -> bool
-    ensures { IsTrue result ↔ LengthHolds name length value.now }
+    ensures { result ≡ length_holds name length value.now }
 {
     match (name, length) {
         (FieldName::CoapOption(_), Length::Fixed(bits)) => value.len() == usize::from(bits),
@@ -76,7 +93,7 @@ fn length_holds(name: FieldName, length: Length, value: &Bits) -> bool
 fn is_number(value: &Bits, width: usize, number: u64) -> bool
     requires width { width ≤ 64 }
     requires fits { number < 2 ^ width }
-    ensures { IsTrue result ↔ (value.now ≡ number_bits width number) }
+    ensures { result ≡ same_bits (number_bits width number) value.now }
 {
     value.len() == width && number_of(value.as_slice()) == number
 }
@@ -101,7 +118,7 @@ fn restored_holds(
     action: Action,
     value: &Bits,
 ) -> bool
-    ensures { IsTrue result ↔ RestoredHolds iids computed.now name action value.now }
+    ensures { result ≡ restored_holds iids computed.now name action value.now }
 {
     match action {
         Action::Compute => match computed_value(computed, name) {
@@ -116,9 +133,9 @@ fn restored_holds(
 
 /// Whether the entry and the value of its field agree.
 pub fn agrees(iids: Iids, computed: &Computed, entry: &Entry, value: &Bits) -> bool
-    ensures { IsTrue result ↔ Agrees iids computed.now entry.now value.now }
+    ensures { result ≡ agrees iids computed.now entry.now value.now }
 {
     length_holds(entry.name, entry.length, value)
-        && operator_holds(entry.operator, entry.targets.as_slice(), value)
+        && operator_holds(entry.operator, entry.targets.as_slice(), value.as_slice())
         && restored_holds(iids, computed, entry.name, entry.action, value)
 }

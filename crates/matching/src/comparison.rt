@@ -1,112 +1,110 @@
 //! The fields of a packet against the entries of a rule.
 
-ghost use Rattle.std.specs.Prelude.{◌≡◌, ◌↔◌, IsTrue, All, Any};
-ghost use Rattle.rule_model.specs.Cover.{field_of};
+ghost use Rattle.std.specs.Prelude.{◌≡◌, ◌↔◌, ◌||◌, not, IsTrue};
+ghost use Rattle.std.specs.List.{list_all};
+ghost use Rattle.schc_ids.specs.Ends.{covers};
+ghost use Rattle.rule_model.specs.Cover.{covered, field_of};
 ghost use Rattle.rule_model.specs.Matches.{Matches};
-ghost use Rattle.matching.specs.Compared.{
-  IsUsedFor,
-  HasEntry,
-  EntryAgrees,
-  FieldMatches,
-  EntryHasField,
+ghost use Rattle.rule_model.specs.Residue.{same_field};
+ghost use Rattle.rule_model.specs.Tests.{
+  agrees,
+  has_entry,
+  has_value,
+  entries_agree,
+  does_match,
 };
 
 use crate::agreement::agrees;
 use rule_model::{Admitted, Computed, Entry, FieldValue, Fields, Rule};
 use schc_ids::{Direction, FieldAt, Iids, covers};
 
-/// Whether the entry is used in the direction and is of the field.
-fn is_used_for(direction: Direction, at: FieldAt, entry: &Entry) -> bool
-    ensures { IsTrue result ↔ IsUsedFor direction at entry.now }
+/// Whether the entry is used in the direction.
+fn is_used(entry: &Entry, direction: Direction) -> bool
+    ensures { result ≡ covers entry.now.direction direction }
 {
-    covers(entry.direction, direction) && entry.field().same(&at)
+    covers(entry.direction, direction)
+}
+
+/// Whether the entry is of the field.
+fn is_of(entry: &Entry, at: FieldAt) -> bool
+    ensures { result ≡ same_field (field_of entry.now) at }
+{
+    entry.name.same(at.name) && entry.position == at.position
 }
 
 /// Whether an entry that is used in the direction is of the field.
-fn has_entry(entries: &[Entry], direction: Direction, at: FieldAt) -> bool
-    ensures { IsTrue result ↔ HasEntry entries.now direction at }
+fn has_entry(rule: &Rule, direction: Direction, at: FieldAt) -> bool
+    ensures { result ≡ has_entry (covered rule.now direction) at }
 {
-    entries
+    rule.entries
+        .as_slice()
         .iter()
-        .any(|entry| is_used_for(direction, at, entry))
+        .filter(|entry| is_used(entry, direction))
+        .any(|entry| is_of(entry, at))
 }
 
-/// Whether the entry agrees with the value of the field, if it is used in the direction and is of
-/// the field.
-fn entry_agrees(
-    iids: Iids,
-    direction: Direction,
-    computed: &Computed,
-    field: &FieldValue,
-    entry: &Entry,
-) -> bool
-    ensures { IsTrue result ↔ EntryAgrees iids direction computed.now field.now entry.now }
+/// Whether each field has an entry that is used in the direction.
+fn fields_have_entries(rule: &Rule, direction: Direction, fields: &[FieldValue]) -> bool
+    ensures { result ≡ list_all (λ f. has_entry (covered rule.now direction) f.at) fields.now }
 {
-    !is_used_for(direction, field.at, entry) || agrees(iids, computed, entry, &field.value)
+    fields
+        .iter()
+        .all(|field| has_entry(rule, direction, field.at))
 }
 
-/// Whether each entry that is used in the direction and is of the field agrees with its value.
+/// Whether a field is the entry's.
+fn has_value(fields: &[FieldValue], entry: &Entry) -> bool
+    ensures { result ≡ has_value fields.now entry.now }
+{
+    fields.iter().any(|field| is_of(entry, field.at))
+}
+
+/// Whether each entry that is used in the direction has a field.
+fn entries_have_values(rule: &Rule, direction: Direction, fields: &[FieldValue]) -> bool
+    ensures { result ≡ list_all (has_value fields.now) (covered rule.now direction) }
+{
+    rule.entries
+        .as_slice()
+        .iter()
+        .filter(|entry| is_used(entry, direction))
+        .all(|entry| has_value(fields, entry))
+}
+
+/// Whether the entry is of another field, or agrees with the value.
+fn agrees_where_of(iids: Iids, computed: &Computed, field: &FieldValue, entry: &Entry) -> bool
+    ensures { result ≡ (not (same_field (field_of entry.now) field.now.at) || agrees iids computed.now entry.now field.now.value) }
+{
+    !is_of(entry, field.at) || agrees(iids, computed, entry, &field.value)
+}
+
+/// Whether each entry of the field that is used in the direction agrees with its value.
 fn entries_agree(
-    entries: &[Entry],
+    rule: &Rule,
     iids: Iids,
     direction: Direction,
     computed: &Computed,
     field: &FieldValue,
 ) -> bool
-    ensures { IsTrue result ↔ All (EntryAgrees iids direction computed.now field.now) entries.now }
+    ensures { result ≡ entries_agree iids computed.now (covered rule.now direction) field.now }
 {
-    entries.iter().all(|entry| entry_agrees(iids, direction, computed, field, entry))
+    rule.entries
+        .as_slice()
+        .iter()
+        .filter(|entry| is_used(entry, direction))
+        .all(|entry| agrees_where_of(iids, computed, field, entry))
 }
 
-/// Whether the field has an entry, and agrees with each that it has.
-#[tactic(auto, unfolding(crate::specs::Compared::FieldMatches))]
-fn field_matches(
-    entries: &[Entry],
-    iids: Iids,
-    direction: Direction,
-    computed: &Computed,
-    field: &FieldValue,
-) -> bool
-    ensures { IsTrue result ↔ FieldMatches entries.now iids direction computed.now field.now }
-{
-    has_entry(entries, direction, field.at)
-        && entries_agree(entries, iids, direction, computed, field)
-}
-
-/// Whether each field of the packet has an entry, and agrees with each that it has.
-fn fields_match(
-    entries: &[Entry],
+/// Whether each entry that is used in the direction agrees with the value of its field.
+fn values_agree(
+    rule: &Rule,
     iids: Iids,
     direction: Direction,
     computed: &Computed,
     fields: &[FieldValue],
 ) -> bool
-    ensures { IsTrue result ↔ All (FieldMatches entries.now iids direction computed.now) fields.now }
+    ensures { result ≡ list_all (entries_agree iids computed.now (covered rule.now direction)) fields.now }
 {
-    fields.iter().all(|field| field_matches(entries, iids, direction, computed, field))
-}
-
-/// Whether a field of the packet is the entry's.
-fn has_field(fields: &[FieldValue], entry: &Entry) -> bool
-    ensures { IsTrue result ↔ Any (λ f. field_of entry.now ≡ f.at) fields.now }
-{
-    fields.iter().any(|field| entry.field().same(&field.at))
-}
-
-/// Whether the entry is of a field of the packet, if it is used in the direction.
-fn entry_has_field(direction: Direction, fields: &[FieldValue], entry: &Entry) -> bool
-    ensures { IsTrue result ↔ EntryHasField direction fields.now entry.now }
-{
-    !covers(entry.direction, direction) || has_field(fields, entry)
-}
-
-/// Whether each entry that is used in the direction is of a field of the packet.
-fn entries_have_fields(entries: &[Entry], direction: Direction, fields: &[FieldValue]) -> bool
-    ensures { IsTrue result ↔ All (EntryHasField direction fields.now) entries.now }
-{
-    entries
-        .iter()
-        .all(|entry| entry_has_field(direction, fields, entry))
+    fields.iter().all(|field| entries_agree(rule, iids, direction, computed, field))
 }
 
 /// Whether the rule matches the fields, for any rule.
@@ -117,11 +115,12 @@ fn rule_matches(
     fields: &Fields,
     computed: &Computed,
 ) -> bool
-    ensures { IsTrue result ↔ Matches rule.now iids direction fields.now.items computed.now }
+    ensures { result ≡ does_match rule.now iids direction fields.now.items computed.now }
 {
-    let entries = rule.entries.as_slice();
-    fields_match(entries, iids, direction, computed, fields.as_slice())
-        && entries_have_fields(entries, direction, fields.as_slice())
+    let fields = fields.as_slice();
+    fields_have_entries(rule, direction, fields)
+        && entries_have_values(rule, direction, fields)
+        && values_agree(rule, iids, direction, computed, fields)
 }
 
 /// Whether the rule matches the fields of a packet that goes in the direction (RFC 8724 section
@@ -137,7 +136,8 @@ pub fn matches(
     fields: &Fields,
     computed: &Computed,
 ) -> bool
-    ensures { IsTrue result ↔ Matches rule.now iids direction fields.now.items computed.now }
+    ensures exact { IsTrue result ↔ Matches rule.now iids direction fields.now.items computed.now }
+    ensures tested { result ≡ does_match rule.now iids direction fields.now.items computed.now }
 {
     rule_matches(rule.rule(), iids, direction, fields, computed)
 }

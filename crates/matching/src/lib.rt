@@ -4,5 +4,6 @@
 mod agreement;
 mod comparison;
 
+pub use agreement::operator_holds;
 pub use comparison::matches;
 pub use rule_model::Computed;

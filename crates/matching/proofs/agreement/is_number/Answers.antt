@@ -1,5 +1,4 @@
-use Rattle.std.proofs.Common.{◌∙◌, sym, ap}
-use Rattle.std.proofs.lemmas.Bool.{eqb-true}
+use Rattle.std.proofs.Common.{◌∙◌, sym, ap, refl}
 use Rattle.schc_bits.specs.Bits.{bits_value}
 use Rattle.matching.proofs.NumberLemmas.{number-read, number-long}
 use Rattle.matching.proofs.agreement.is_number.Goals as goal
@@ -9,7 +8,5 @@ returns-then-len-width c =
     number-read c.args.value.now c.args.width c.args.number c.number_of.result c.requires.fits (sym c.len.ensures ∙ c.if-len-width.true) (c.number_of.ensures ∙ ap bits_value c.as_slice.ensures)
 
 pub returns-else-len-width : goal.returns-else-len-width
-returns-else-len-width c = (
-  λ h. absurd (c.if-len-width.false (eqb-true c.len.result c.args.width h)),
-  number-long c.args.value.now c.args.width c.args.number c.len.result c.len.ensures,
-)
+returns-else-len-width c =
+    number-long c.args.value.now c.args.width c.args.number c.len.result _ c.len.ensures refl c.if-len-width.false
