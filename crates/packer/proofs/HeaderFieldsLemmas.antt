@@ -1,0 +1,94 @@
+-- The fields of the headers: each stands there once, has its width and isn't of CoAP.
+use Rattle.std.specs.Prelude.{ℕ, ◌≡◌, ◌≢◌, ◌==◌, ◌&&◌, ◌||◌, Bool, true, false, not, nat_lt, List, [], ◌∷◌, length, map, Option, Some, None, unwrap_or, IfSome, All, AllPairs, Contains}
+use Rattle.std.specs.List.{AllByRecursion, list_all}
+use Rattle.std.proofs.Common.{arith, ap, refl, subst}
+use Rattle.std.proofs.lemmas.Bool.{and_parts, or_parts, not-false}
+use Rattle.std.proofs.lemmas.List.Elements.{All-nil, All-cons, All-map, All-weaker, All-contains, All-contains_itself, All-filter}
+use Rattle.std.proofs.lemmas.List.Kept.{AllPairs-cons}
+use Rattle.std.proofs.lemmas.List.Sums.{AllPass-from_list_all}
+use Rattle.schc_ids.specs.declared.ends.Direction.{Direction}
+use Rattle.schc_ids.specs.declared.names.FieldAt.{FieldAt}
+use Rattle.schc_ids.specs.declared.names.FieldName.{FieldName}
+use Rattle.schc_ids.specs.declared.names.FieldName.TheVariants.{CoapVersion, CoapType, CoapTkl, CoapCode, CoapMid, CoapToken, CoapOption}
+use Rattle.schc_ids.specs.declared.names.Stack.{Stack}
+use Rattle.schc_ids.specs.declared.names.Stack.TheVariants as stack
+use Rattle.schc_ids.specs.Ends.{covers}
+use Rattle.schc_ids.specs.Names.{same_name, is_option, width_of, fields_of_stack}
+use Rattle.schc_ids.proofs.NamesLemmas.{same_name-itself}
+use Rattle.rule_model.specs.Data.{EntryData, RuleData}
+use Rattle.rule_model.specs.Cover.{covered}
+use Rattle.rule_model.specs.Findings.{is_length_of, IsAdmitted}
+use Rattle.rule_model.specs.Residue.{WidthHolds}
+use Rattle.rule_model.proofs.EntryRowsLemmas.{EntryHolds-from_IsAdmitted}
+use Rattle.ip_udp_fields.specs.Layout.{IsWithoutCoap, bits_of}
+use Rattle.ip_udp_fields.specs.Fields.{field_in}
+use Rattle.ip_udp_fields.proofs.SplitLemmas.{field_bits}
+
+-- no name stands twice
+abbrev pub are_apart : List FieldName → Bool
+are_apart [] = true
+are_apart (name ∷ names) = list_all (λ other. not (same_name name other)) names && are_apart names
+
+pub names-apart : (of : Stack) → IsWithoutCoap of → are_apart (fields_of_stack of) ≡ true
+names-apart stack.Ip h = refl
+names-apart stack.IpUdp h = refl
+names-apart stack.IpUdpCoap h = absurd h
+
+-- fields of other names are others
+pub other_at : (way : Direction) (packet : List ℕ) (name other : FieldName) → not (same_name name other) ≡ true → (field_in way packet name).at ≢ (field_in way packet other).at
+other_at way packet name other h e =
+    let same : name ≡ other = ap (λ (at : FieldAt). at.name) e in
+    let itself : same_name name other ≡ true = subst (λ n. same_name name n ≡ true) same (same_name-itself name) in
+    absurd (cc)
+
+pub once_along : (way : Direction) (packet : List ℕ) (names : List FieldName) → are_apart names ≡ true → AllPairs (λ f g. f.at ≢ g.at) (map (field_in way packet) names)
+once_along way packet [] h = λ i j d l k. absurd (omega arith)
+once_along way packet (name ∷ names) h =
+    let parts : (list_all (λ other. not (same_name name other)) names ≡ true) × (are_apart names ≡ true) = and_parts (list_all (λ other. not (same_name name other)) names) (are_apart names) h in
+    AllPairs-cons (λ f g. f.at ≢ g.at) (field_in way packet name) (map (field_in way packet) names)
+    (All-map (λ g. (field_in way packet name).at ≢ g.at) (field_in way packet) names
+    (All-weaker (λ other. not (same_name name other) ≡ true) (λ other. (field_in way packet name).at ≢ (field_in way packet other).at) (other_at way packet name) names
+    (AllPass-from_list_all (λ other. not (same_name name other)) names parts.0)))
+    (once_along way packet names parts.1)
+
+-- a field of the width that its name has
+pub width_from : (o : Option ℕ) (value : List Bool) → length value ≡ unwrap_or o 0 → IfSome o (λ width. length value ≡ width)
+width_from None value e = tt
+width_from (Some width) value e = e
+
+pub widths_along : (way : Direction) (packet : List ℕ) (names : List FieldName) → AllByRecursion (λ n. length (field_bits way packet n) ≡ bits_of n) names → All (λ f. WidthHolds f.at.name f.value) (map (field_in way packet) names)
+widths_along way packet [] h = All-nil _
+widths_along way packet (name ∷ names) h =
+    All-cons (λ f. WidthHolds f.at.name f.value) (field_in way packet name) (map (field_in way packet) names)
+    (width_from (width_of name) (field_bits way packet name) h.0)
+    (widths_along way packet names h.1)
+
+-- a field that isn't of CoAP
+abbrev pub is_below_coap : FieldName → Bool
+is_below_coap CoapVersion = false
+is_below_coap CoapType = false
+is_below_coap CoapTkl = false
+is_below_coap CoapCode = false
+is_below_coap CoapMid = false
+is_below_coap CoapToken = false
+is_below_coap (CoapOption number) = false
+is_below_coap _ = true
+
+pub names-below : (of : Stack) → IsWithoutCoap of → list_all is_below_coap (fields_of_stack of) ≡ true
+names-below stack.Ip h = refl
+names-below stack.IpUdp h = refl
+names-below stack.IpUdpCoap h = absurd h
+
+pub fields-below : (of : Stack) (way : Direction) (packet : List ℕ) → IsWithoutCoap of → All (λ f. is_below_coap f.at.name ≡ true) (map (field_in way packet) (fields_of_stack of))
+fields-below of way packet h =
+    All-map (λ f. is_below_coap f.at.name ≡ true) (field_in way packet) (fields_of_stack of) (AllPass-from_list_all is_below_coap (fields_of_stack of) (names-below of h))
+
+-- the length is one of the field's
+pub kind_of : (rule : RuleData) → IsAdmitted rule → (e : EntryData) → Contains rule.entries e → is_length_of e.name e.length ≡ true
+kind_of rule admitted e among =
+    let first : ((not (is_length_of e.name e.length) || (e.position == 0)) ≡ false) × ((nat_lt 1 e.position && not (is_option e.name)) ≡ false) = or_parts (not (is_length_of e.name e.length) || (e.position == 0)) (nat_lt 1 e.position && not (is_option e.name)) (EntryHolds-from_IsAdmitted rule admitted e among).shape in
+    not-false (is_length_of e.name e.length) (or_parts (not (is_length_of e.name e.length)) (e.position == 0) first.0).0
+
+pub of_rule : (rule : RuleData) (way : Direction) (e : EntryData) → Contains (covered rule way) e → Contains rule.entries e
+of_rule rule way e h =
+    All-contains (Contains rule.entries) (covered rule way) e (All-filter (λ e. covers e.direction way) (Contains rule.entries) rule.entries (All-contains_itself rule.entries)) h

@@ -1,0 +1,93 @@
+-- The fields of a packet by their names, and the direction of a rule that matches them.
+use Rattle.std.specs.Prelude.{ℕ, ◌≡◌, ◌≢◌, ◌<◌, zero, suc, true, not, List, [], ◌∷◌, length, get_or, map, AllPairs, Contains}
+use Rattle.std.specs.List.{list_any}
+use Rattle.std.proofs.Common.{arith, ap, refl, sym, ◌∙◌, subst, inl, inr}
+use Rattle.std.proofs.lemmas.Bool.{and_parts, not-true, true≢false}
+use Rattle.std.proofs.lemmas.List.Elements.{Contains-get_or}
+use Rattle.schc_ids.specs.declared.ends.Direction.{Direction}
+use Rattle.schc_ids.specs.declared.ends.Iids.{Iids}
+use Rattle.schc_ids.specs.declared.names.FieldAt.{FieldAt}
+use Rattle.schc_ids.specs.declared.names.FieldName.{FieldName}
+use Rattle.schc_ids.specs.declared.names.Stack.{Stack}
+use Rattle.schc_ids.specs.declared.names.Stack.TheVariants as stack
+use Rattle.schc_ids.specs.Names.{same_name, fields_of_stack}
+use Rattle.schc_ids.proofs.NamesLemmas.{same_name-itself}
+use Rattle.rule_model.specs.declared.value.FieldValue.{FieldValue}
+use Rattle.rule_model.specs.declared.value.Computed.{Computed}
+use Rattle.rule_model.specs.Data.{RuleData}
+use Rattle.rule_model.specs.Cover.{covered, stack_of, has_field}
+use Rattle.rule_model.specs.Matches.{Matches}
+use Rattle.ip_udp_fields.specs.Layout.{IsWithoutCoap}
+use Rattle.ip_udp_fields.specs.Fields.{field_in, fields_in, FieldsOf}
+use Rattle.ip_udp_fields.proofs.OrderLemmas.{are_distinct}
+use Rattle.ip_udp_fields.proofs.SplitLemmas.{without_coap}
+use Rattle.packer.specs.Packets.{PacketOf}
+use Rattle.packer.specs.Unpacking.{reads}
+use Rattle.packer.proofs.CoverLemmas.{Contains-parts, Contains-map, each_passes, fails_each, some_passes}
+
+-- a packet of a stack without CoAP
+pub PacketOf-fields : (of : Stack) (way : Direction) (packet : List ℕ) (fields : List FieldValue) (from : ℕ) → IsWithoutCoap of → PacketOf of way packet fields from → FieldsOf of way packet fields from
+PacketOf-fields stack.Ip way packet fields from h p = p
+PacketOf-fields stack.IpUdp way packet fields from h p = p
+PacketOf-fields stack.IpUdpCoap way packet fields from h p = absurd h
+
+pub fields-PacketOf : (of : Stack) (way : Direction) (packet : List ℕ) (fields : List FieldValue) (from : ℕ) → IsWithoutCoap of → FieldsOf of way packet fields from → PacketOf of way packet fields from
+fields-PacketOf stack.Ip way packet fields from h p = p
+fields-PacketOf stack.IpUdp way packet fields from h p = p
+fields-PacketOf stack.IpUdpCoap way packet fields from h p = absurd h
+
+distinct : (of : Stack) → IsWithoutCoap of → are_distinct (fields_of_stack of) ≡ true
+distinct stack.Ip h = refl
+distinct stack.IpUdp h = refl
+distinct stack.IpUdpCoap h = absurd h
+
+-- an element of a mapped list is made of one
+pub Contains-unmap : {X Y : Type 0} (f : X → Y) (xs : List X) (y : Y) → Contains (map f xs) y → (x : X) × Contains xs x × (f x ≡ y)
+Contains-unmap f [] y h = absurd (omega (arith, h.1))
+Contains-unmap f (x ∷ xs) y h =
+    elim (Contains-parts (f x) (map f xs) y h) [
+      | inl e ↦ (x, (0, omega arith, refl), e)
+      | inr rest ↦ let later = Contains-unmap f xs y rest in (later.0, (suc later.1.0, omega (arith, later.1.1), later.1.2), later.2)
+    ]
+
+pairs_from : {X : Type 0} (R : X → X → Type 0) (x : X) (xs : List X) → ((y : X) → Contains xs y → R x y) → AllPairs R xs → (i j : ℕ) (d : X) → i < j → j < length (x ∷ xs) → R (get_or (x ∷ xs) i d) (get_or (x ∷ xs) j d)
+pairs_from R x xs h k i zero d l m = absurd (omega arith)
+pairs_from R x xs h k zero (suc j) d l m = h (get_or xs j d) (Contains-get_or xs j d (omega arith))
+pairs_from R x xs h k (suc i) (suc j) d l m = k i j d (omega arith) (omega arith)
+
+once_named : (way : Direction) (packet : List ℕ) (names : List FieldName) → are_distinct names ≡ true → AllPairs (λ f g. f.at ≢ g.at) (map (field_in way packet) names)
+once_named way packet [] h = λ i j d l m. absurd (omega arith)
+once_named way packet (name ∷ names) h =
+    let parts = and_parts (not (list_any (same_name name) names)) (are_distinct names) h in
+    pairs_from (λ f g. f.at ≢ g.at) (field_in way packet name) (map (field_in way packet) names)
+    (λ g among same.
+    let m = Contains-unmap (field_in way packet) names g among in
+    let equal : name ≡ m.0 = ap (λ (at : FieldAt). at.name) (same ∙ ap (λ (f : FieldValue). f.at) (sym m.2)) in
+    true≢false (sym (subst (λ n. same_name name n ≡ true) equal (same_name-itself name)) ∙ fails_each (same_name name) names (not-true (list_any (same_name name) names) parts.0) m.0 m.1))
+    (once_named way packet names parts.1)
+
+-- a field of a packet is of a name of its stack
+pub named-field : (of : Stack) (way : Direction) (packet : List ℕ) (fields : List FieldValue) (from : ℕ) (f : FieldValue) → FieldsOf of way packet fields from → Contains fields f → (name : FieldName) × Contains (fields_of_stack of) name × (field_in way packet name ≡ f)
+unfolding fields_in
+named-field of way packet fields from f p among =
+    Contains-unmap (field_in way packet) (fields_of_stack of) f (subst (λ (all : List FieldValue). Contains all f) p.its_fields among)
+
+pub field-named : (of : Stack) (way : Direction) (packet : List ℕ) (fields : List FieldValue) (from : ℕ) (name : FieldName) → FieldsOf of way packet fields from → Contains (fields_of_stack of) name → Contains fields (field_in way packet name)
+unfolding fields_in
+field-named of way packet fields from name p among =
+    subst (λ (all : List FieldValue). Contains all (field_in way packet name)) (sym p.its_fields) (Contains-map (field_in way packet) (fields_of_stack of) name among)
+
+-- no name stands twice
+pub once-fields : (of : Stack) (way : Direction) (packet : List ℕ) (fields : List FieldValue) (from : ℕ) → FieldsOf of way packet fields from → AllPairs (λ f g. f.at ≢ g.at) fields
+unfolding fields_in
+once-fields of way packet fields from p =
+    subst (AllPairs (λ f g. f.at ≢ g.at)) (sym p.its_fields) (once_named way packet (fields_of_stack of) (distinct of (without_coap of packet p.is_packet)))
+
+-- a rule that matches a packet reads packets of its direction
+pub reads-matching : (rule : RuleData) (iids : Iids) (way : Direction) (packet : List ℕ) (fields : List FieldValue) (from : ℕ) (computed : Computed) → FieldsOf (stack_of rule) way packet fields from → Matches rule iids way fields computed → reads rule way ≡ true
+reads-matching rule iids way packet fields from computed p matches =
+    each_passes (has_field rule way) (fields_of_stack (stack_of rule))
+    (λ name among.
+    let e = matches.same_set.each_field (field_in way packet name) (field-named (stack_of rule) way packet fields from name p among) in
+    some_passes (λ d. same_name d.name name) (covered rule way) e.0 e.1
+    (subst (λ n. same_name n name ≡ true) (sym (ap (λ (at : FieldAt). at.name) e.2)) (same_name-itself name)))

@@ -1,0 +1,54 @@
+-- Stacks without CoAP: nothing but the payload follows the headers.
+use Rattle.std.specs.Prelude.{ℕ, ◌≡◌, ◌⊎◌, List, [], ◌++◌, length, map}
+use Rattle.std.proofs.Common.{ap, refl, sym, ◌∙◌, subst, inl, inr}
+use Rattle.schc_ids.specs.declared.ends.Direction.{Direction}
+use Rattle.schc_ids.specs.declared.names.Stack.{Stack}
+use Rattle.schc_ids.specs.declared.names.Stack.TheVariants as stack
+use Rattle.rule_model.specs.declared.value.FieldValue.{FieldValue}
+use Rattle.rule_model.specs.Data.{RuleData}
+use Rattle.rule_model.specs.Cover.{covered, stack_of}
+use Rattle.ip_udp_fields.specs.Layout.{IsWithoutCoap}
+use Rattle.ip_udp_fields.specs.Join.{contents}
+use Rattle.packer.specs.Unpacking.{body_of, message_faults, fixed_headers, headers_of, header_faults, operator_fault, made_faults, packet_faults, checksummed, joined, packet_around, packet_of}
+
+pub without-of : (it of : Stack) → it ≡ of → (it ≡ stack.Ip) ⊎ (it ≡ stack.IpUdp) → IsWithoutCoap of
+without-of it of e (inl h) = subst IsWithoutCoap (sym h ∙ e) tt
+without-of it of e (inr h) = subst IsWithoutCoap (sym h ∙ e) tt
+
+pub body-plain : (of : Stack) (fields : List FieldValue) (payload : List ℕ) → IsWithoutCoap of → body_of of fields payload ≡ payload
+body-plain stack.Ip fields payload h = refl
+body-plain stack.IpUdp fields payload h = refl
+body-plain stack.IpUdpCoap fields payload h = absurd h
+
+pub faults-plain : (of : Stack) (fields : List FieldValue) → IsWithoutCoap of → message_faults of fields ≡ []
+faults-plain stack.Ip fields h = refl
+faults-plain stack.IpUdp fields h = refl
+faults-plain stack.IpUdpCoap fields h = absurd h
+
+pub fixed-plain : (of : Stack) → IsWithoutCoap of → fixed_headers of ≡ of
+fixed-plain stack.Ip h = refl
+fixed-plain stack.IpUdp h = refl
+fixed-plain stack.IpUdpCoap h = absurd h
+
+-- the headers that stand at fixed places are those of a stack without CoAP
+pub fixed-without : (of : Stack) → IsWithoutCoap (fixed_headers of)
+fixed-without stack.Ip = tt
+fixed-without stack.IpUdp = tt
+fixed-without stack.IpUdpCoap = tt
+
+pub contents-fixed : (of : Stack) (fields : List FieldValue) (size : ℕ) → contents (fixed_headers of) fields size ≡ contents of fields size
+contents-fixed stack.Ip fields size = refl
+contents-fixed stack.IpUdp fields size = refl
+contents-fixed stack.IpUdpCoap fields size = refl
+
+pub packet_of-plain : (rule : RuleData) (way : Direction) (fields : List FieldValue) (payload : List ℕ) → IsWithoutCoap (stack_of rule) → packet_of rule way fields payload ≡ checksummed rule way (joined (stack_of rule) way (headers_of rule way fields (length payload)) payload)
+unfolding packet_around
+packet_of-plain rule way fields payload h =
+    ap (packet_around rule way fields) (body-plain (stack_of rule) fields payload h)
+    ∙ ap (λ of. checksummed rule way (joined of way (headers_of rule way fields (length payload)) payload)) (fixed-plain (stack_of rule) h)
+
+pub packet_faults-plain : (rule : RuleData) (way : Direction) (fields : List FieldValue) (payload : List ℕ) → IsWithoutCoap (stack_of rule) → packet_faults rule way fields payload ≡ map (operator_fault fields) (covered rule way) ++ header_faults (stack_of rule) (headers_of rule way fields (length payload)) (length payload)
+unfolding packet_faults
+packet_faults-plain rule way fields payload h =
+    ap (λ body. map (operator_fault fields) (covered rule way) ++ made_faults rule way fields body) (body-plain (stack_of rule) fields payload h)
+    ∙ ap (λ faults. map (operator_fault fields) (covered rule way) ++ (faults ++ header_faults (stack_of rule) (headers_of rule way fields (length payload)) (length payload))) (faults-plain (stack_of rule) fields h)

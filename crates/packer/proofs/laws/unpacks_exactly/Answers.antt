@@ -1,0 +1,5 @@
+use Rattle.packer.proofs.UnpackedLemmas.{unpacks_exactly}
+use Rattle.packer.proofs.laws.unpacks_exactly.Goals as goal
+
+pub returns : goal.returns
+returns c = unpacks_exactly

@@ -1,0 +1,9 @@
+pub mod Packets
+pub mod Schc
+pub mod Packing
+pub mod Headers
+pub mod UnpackedData
+pub mod Ordering
+pub mod Unpacking
+pub mod Rebuilding
+pub mod Laws

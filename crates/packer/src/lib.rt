@@ -1,0 +1,12 @@
+//! Whole packets to SCHC packets and back (RFC 8724, section 7).
+#![tactic(auto)]
+
+pub mod laws;
+mod ordering;
+mod packing;
+mod rebuilding;
+mod stacks;
+mod unpacking;
+
+pub use packing::{Packed, pack};
+pub use unpacking::{Unpacked, is_ipv6, unpack};

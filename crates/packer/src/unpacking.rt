@@ -1,0 +1,187 @@
+//! Reading a packet.
+
+ghost use Rattle.std.specs.Prelude.{◌≡◌, ◌≤◌, ◌⊎◌, true, Bool, List, length, drop, Ok, Err, IfOk, IfErr, IfSome, IfNone};
+ghost use Rattle.schc_bits.specs.Bits.{bytes_of};
+ghost use Rattle.editions.specs.Data.{lookup};
+ghost use Rattle.decompress.specs.Reading.{restore_at};
+ghost use Rattle.packer.specs.Packets.{is_ipv6};
+ghost use Rattle.packer.specs.Rebuilding.{AreRestored};
+ghost use Rattle.packer.specs.Unpacking.{
+  read_by,
+  read_under,
+  read_whole,
+  reads,
+  rebuilt,
+  rebuilt_from,
+  unpacked,
+};
+
+use crate::rebuilding::rebuild;
+use decompress::restore;
+use editions::Edition;
+use rule_model::{Admitted, Fields};
+use schc_bits::{Bits, Octets, number_of, whole_bytes};
+use schc_ids::{Direction, FieldAt, FieldName, Iids, ResidueFault, UnpackFault};
+use std::alloc::Global;
+use std::marker::Model;
+
+/// What was read: the RuleID, and the packet.
+#[derive(Drop)]
+pub struct Unpacked {
+    pub rule_id: u16,
+    pub packet: Octets,
+}
+
+impl Model for Unpacked {
+    ghost use Rattle.packer.specs.UnpackedData.{UnpackedData};
+
+    ghost Value = { UnpackedData };
+
+    ghost view = { λ u. record { rule_id = u.rule_id; packet = u.packet.items } };
+}
+
+/// The RuleID of packets that no rule compresses (RFC 9011 section 5.1).
+const UNCOMPRESSED: u16 = 22;
+
+/// The bits of a RuleID.
+const RULE_ID: usize = 8;
+
+const VERSION: FieldAt = FieldAt {
+    name: FieldName::IpVersion,
+    position: 1,
+};
+
+/// Whether the packet has a whole IPv6 header: 40 bytes or more, and the first four bits are 6 (RFC
+/// 8200 section 3).
+pub fn is_ipv6(packet: &[u8]) -> bool
+    ensures { result ≡ is_ipv6 packet.now }
+{
+    match packet {
+        [first, ..] => packet.len() >= 40 && *first / 16 == 6,
+        [] => false,
+    }
+}
+
+/// A packet that no rule compresses: the whole bytes.
+fn read_whole(alloc: Global, bits: &[bool]) -> Result<Octets, UnpackFault>
+    ensures ok { IfOk result (λ packet. read_whole (bytes_of bits.now) ≡ Ok packet.items) }
+    ensures err { IfErr result (λ fault. (fault ≡ UnpackFault.Memory) ⊎ (read_whole (bytes_of bits.now) ≡ Err fault)) }
+{
+    match whole_bytes(alloc, bits) {
+        Ok(packet) => {
+            if is_ipv6(packet.as_slice()) {
+                Ok(packet)
+            } else {
+                Err(UnpackFault::BadPacket(VERSION))
+            }
+        }
+        Err(_) => Err(UnpackFault::Memory),
+    }
+}
+
+/// The rest behind a residue, whose fields were restored.
+fn read_payload(
+    alloc: Global,
+    rule: &Admitted,
+    direction: Direction,
+    fields: &Fields,
+    rest: &[bool],
+) -> Result<Octets, UnpackFault>
+    requires { AreRestored rule.now direction fields.now.items }
+    ensures ok { IfOk result (λ packet. rebuilt rule.now direction fields.now.items (bytes_of rest.now) ≡ Ok packet.items) }
+    ensures err { IfErr result (λ fault. (fault ≡ UnpackFault.Memory) ⊎ (rebuilt rule.now direction fields.now.items (bytes_of rest.now) ≡ Err fault)) }
+{
+    match whole_bytes(alloc, rest) {
+        Ok(payload) => rebuild(alloc, rule, direction, fields, payload.as_slice()),
+        Err(_) => Err(UnpackFault::Memory),
+    }
+}
+
+/// A packet by the rule, which reads packets of the direction.
+fn read_by(
+    alloc: Global,
+    rule: &Admitted,
+    iids: Iids,
+    direction: Direction,
+    bits: &Bits,
+) -> Result<Octets, UnpackFault>
+    requires bits { 8 ≤ length bits.now }
+    requires reads { reads rule.now direction ≡ true }
+    ensures ok { IfOk result (λ packet. rebuilt_from rule.now direction (restore_at rule.now iids direction (drop 8 bits.now)) ≡ Ok packet.items) }
+    ensures err { IfErr result (λ fault. (fault ≡ UnpackFault.Memory)
+        ⊎ (rebuilt_from rule.now direction (restore_at rule.now iids direction (drop 8 bits.now)) ≡ Err fault)) }
+{
+    match restore(alloc, rule, iids, direction, bits, RULE_ID) {
+        Ok(restored) => {
+            let rest = &bits.as_slice()[restored.next..];
+            read_payload(alloc, rule, direction, &restored.fields, rest)
+        }
+        Err(fault) => Err(fault),
+    }
+}
+
+/// The rule that reads packets of the direction under the RuleID.
+fn reader(edition: &Edition, id: u16, direction: Direction) -> Option<&Admitted>
+    ensures none { IfNone result ((iids : Iids) → (bits : List Bool) → read_by id iids direction (lookup edition.now.rules id) bits ≡ Err (UnpackFault.UnknownRule id)) }
+    ensures some { IfSome result (λ rule. (reads rule.now direction ≡ true) × ((iids : Iids) → (bits : List Bool)
+        → read_by id iids direction (lookup edition.now.rules id) bits ≡ rebuilt_from rule.now direction (restore_at rule.now iids direction bits))) }
+{
+    let listed = edition.lookup(id)?;
+    if listed.rule.serves(direction) {
+        Some(&listed.rule)
+    } else {
+        None
+    }
+}
+
+/// What follows the RuleID.
+fn read_under(
+    alloc: Global,
+    edition: &Edition,
+    iids: Iids,
+    direction: Direction,
+    id: u16,
+    bits: &Bits,
+) -> Result<Octets, UnpackFault>
+    requires { 8 ≤ length bits.now }
+    ensures ok { IfOk result (λ packet. read_under edition.now iids direction id (drop 8 bits.now) ≡ Ok packet.items) }
+    ensures err { IfErr result (λ fault. (fault ≡ UnpackFault.Memory)
+        ⊎ (read_under edition.now iids direction id (drop 8 bits.now) ≡ Err fault)) }
+{
+    if id == UNCOMPRESSED {
+        return read_whole(alloc, &bits.as_slice()[RULE_ID..]);
+    }
+    match reader(edition, id, direction) {
+        Some(rule) => read_by(alloc, rule, iids, direction, bits),
+        None => Err(UnpackFault::UnknownRule(id)),
+    }
+}
+
+/// Reads an SCHC packet: the RuleID in 8 bits, the residue, and the payload, which is the whole
+/// bytes that are left. Up to 7 bits behind it aren't looked at (RFC 8724 section 7).
+///
+/// # Errors
+/// The first that holds: `BadResidue(0, Short)` for fewer than 8 bits; `UnknownRule` for a RuleID
+/// that is neither 22 nor that of a listed rule which serves the direction; `BadResidue` at the
+/// first entry that can't be read; `BadPacket` for the first field that keeps the restored fields
+/// from being a packet. Or want of memory.
+#[tactic(auto, unfolding(crate::specs::Unpacking::unpacked))]
+pub fn unpack(
+    alloc: Global,
+    edition: &Edition,
+    iids: Iids,
+    direction: Direction,
+    bits: &Bits,
+) -> Result<Unpacked, UnpackFault>
+    ensures ok { IfOk result (λ read. unpacked edition.now iids direction bits.now ≡ Ok read) }
+    ensures err { IfErr result (λ fault. (fault ≡ UnpackFault.Memory) ⊎ (unpacked edition.now iids direction bits.now ≡ Err fault)) }
+{
+    if bits.len() < RULE_ID {
+        return Err(UnpackFault::BadResidue(0, ResidueFault::Short));
+    }
+    let rule_id = number_of(&bits.as_slice()[..RULE_ID]) as u16;
+    match read_under(alloc, edition, iids, direction, rule_id, bits) {
+        Ok(packet) => Ok(Unpacked { rule_id, packet }),
+        Err(fault) => Err(fault),
+    }
+}
