@@ -1,0 +1,40 @@
+-- What one end of the link keeps, as contracts see it.
+use Rattle.std.specs.Prelude.{ℕ, ◌+◌, ◌/◌, ◌<◌, ◌≤◌, Bool, List, length, drop}
+use Rattle.std.specs.List.{AllByRecursion}
+use Rattle.schc_ids.specs.declared.ends.EndParams.{EndParams}
+use Rattle.schc_ids.specs.declared.ends.Role.{Role}
+use Rattle.editions.specs.Data.{EditionData}
+use Rattle.packer.specs.declared.packing.Packed.{Packed}
+
+-- an end has its role and its parameters, the edition of rules that it knows and reads with, the edition that it writes
+-- with, and the packets that wait, each as it was written when it was handed down, the first of which is sent next
+pub record EndData : Type 0 where
+  pub role : Role
+  pub params : EndParams
+  pub known : EditionData
+  pub writes : EditionData
+  pub queue : List Packed
+
+-- the most bytes of a frame that an end may be made with
+abbrev pub IsMtu : ℕ → Type 0
+IsMtu mtu = (15 ≤ mtu) × (mtu ≤ 242)
+
+-- the bits of an SCHC packet after its RuleID, which has 8 bits (RFC 9011, section 5.1)
+abbrev pub after_id : List Bool → List Bool
+after_id bits = drop 8 bits
+
+-- the bytes of a frame that carries the SCHC packet whole: the RuleID goes by the port (RFC 9011, section 5.1), and the
+-- other bits in whole bytes (RFC 8724, section 9)
+abbrev pub frame_size : List Bool → ℕ
+frame_size bits = (length (after_id bits) + 7) / 8
+
+-- a packet that can wait: its RuleID is a port, it has the RuleID's bits, and it fits a frame
+pub record IsSendable (mtu : ℕ) (form : Packed) : Type 0 where
+  pub is_port : form.rule_id < 256
+  pub has_id : 8 ≤ length form.bits
+  pub fits : frame_size form.bits ≤ mtu
+
+-- what each end keeps
+pub record IsEnd (mtu : ℕ) (queue : List Packed) : Type 0 where
+  pub in_range : IsMtu mtu
+  pub sendable : AllByRecursion (IsSendable mtu) queue

@@ -1,0 +1,15 @@
+//! What happens to the two ends of a link and what they answer: frames, events and their outcomes.
+//! Plain data.
+#![tactic(auto)]
+
+mod events;
+mod frames;
+mod notes;
+mod outcomes;
+
+pub use events::WorldEvent;
+pub use frames::{Frame, HandUp};
+pub use notes::{Cause, Note};
+pub use outcomes::{
+    Accepted, DownFault, Emission, EmitKind, Emitted, Line, Offered, StepFault, Taken,
+};
