@@ -1,19 +1,20 @@
 -- A run in which nothing is lost: a packet that is handed down arrives, once.
-use Rattle.std.specs.Prelude.{◌≡◌, ℕ, List, [], ◌∷◌, ◌++◌, length, Some, None, Result, Ok}
+use Rattle.std.specs.Prelude.{◌≡◌, ℕ, ◌≤◌, List, [], ◌∷◌, ◌++◌, length, Some, None, Result, Ok, slice_get}
 use Rattle.schc_ids.specs.Ends.{sent_direction, other_role}
 use Rattle.schc_ids.specs.declared.ends.EndParams.{EndParams}
 use Rattle.schc_ids.specs.declared.ends.Role.{Role}
 use Rattle.schc_ids.specs.declared.ends.Role.TheVariants.{Device, Gateway}
 use Rattle.schc_ids.specs.declared.ends.Direction.{Direction}
-use Rattle.two_ends.specs.Events.{Event, Down, Slot, Deliver}
-use Rattle.two_ends.specs.World.{WorldData, step}
+use Rattle.editions.specs.Data.{EditionData}
+use Rattle.packer.specs.Laws.{RestoresUnder}
+use Rattle.event_data.specs.Events.{Event, Down, Slot, Deliver}
+use Rattle.event_data.specs.declared.outcomes.Accepted.{Accepted}
+use Rattle.event_data.specs.declared.outcomes.Line.{Line}
+use Rattle.event_data.specs.declared.outcomes.Line.TheVariants as line
+use Rattle.event_data.specs.declared.outcomes.StepFault.{StepFault}
+use Rattle.two_ends.specs.World.{WorldData, end_of, step}
 use Rattle.two_ends.specs.Fits.{Fits, FitsEvent}
 use Rattle.two_ends.specs.History.{HandedUp, History, start, next, run}
-use Rattle.two_ends.specs.Safe.{kept}
-use Rattle.two_ends.specs.declared.outcomes.Accepted.{Accepted}
-use Rattle.two_ends.specs.declared.outcomes.Line.{Line}
-use Rattle.two_ends.specs.declared.outcomes.Line.TheVariants as line
-use Rattle.two_ends.specs.declared.outcomes.StepFault.{StepFault}
 
 -- an outcome of an event
 abbrev pub outcome : WorldData → Event → Result Line StepFault
@@ -41,27 +42,34 @@ plain_round h role = slot_delivered (slot_delivered h role) (other_role role)
 abbrev pub round_after : History → Role → List ℕ → History
 round_after h role packet = plain_round (next h (Down role packet)) role
 
--- exactly one more packet was handed up: this one, from this direction and under this RuleID, and its label leads to
--- the packet that was handed down with this index
-pub record BringsUp (before after : List HandedUp) (direction : Direction) (packet : List ℕ) (accepted : Accepted) (index : ℕ) : Type 0 where
+-- the other end knows the edition with which the packet was written, or a later one
+abbrev pub ReaderKnows : WorldData → Role → Accepted → Type 0
+ReaderKnows w role accepted = accepted.edition ≤ (end_of w (other_role role)).known.number
+
+-- exactly one more packet was handed up, from this direction and under the RuleID of this one: it is what the other end
+-- restores of this one under the rule, and its label leads to the packet that was handed down with this index
+pub record BringsUp (before after : List HandedUp) (chain : List EditionData) (direction : Direction) (packet : List ℕ) (accepted : Accepted) (index : ℕ) : Type 0 where
   pub entry : HandedUp
   pub one_more : after ≡ before ++ entry ∷ []
   pub from_there : entry.direction ≡ direction
   pub under_rule : entry.rule_id ≡ accepted.rule_id
-  pub same_packet : entry.packet ≡ kept packet
+  pub writer : EditionData
+  pub written_with : slice_get chain accepted.edition ≡ Some writer
+  pub same_packet : RestoresUnder writer direction accepted.rule_id packet entry.packet
   pub leads_here : entry.label ≡ Some index
 
 -- a packet that was handed down at an end was carried, from the history before to the one after: it was handed up
 -- once, and then neither end has a frame due
 pub record IsCarried (before after : History) (role : Role) (packet : List ℕ) (accepted : Accepted) : Type 0 where
-  pub arrives : BringsUp before.logs.ups after.logs.ups (sent_direction role) packet accepted (length before.logs.downs)
+  pub arrives : BringsUp before.logs.ups after.logs.ups before.world.chain (sent_direction role) packet accepted (length before.logs.downs)
   pub at_rest : HasNothingDue after.world
 
--- a packet that is handed down where neither end has a frame due, and taken, is carried by one plain round
+-- a packet that is handed down where neither end has a frame due, and taken, is carried by one plain round, where the
+-- other end knows the edition with which it was written, or a later one
 abbrev pub Arrives : History → Role → List ℕ → Type 0
 Arrives h role packet =
     (accepted : Accepted) → HasNothingDue h.world →
-    outcome h.world (Down role packet) ≡ Ok (line.Hand accepted) →
+    outcome h.world (Down role packet) ≡ Ok (line.Hand accepted) → ReaderKnows h.world role accepted →
     IsCarried h (round_after h role packet) role packet accepted
 
 -- so it is in every world that events lead to

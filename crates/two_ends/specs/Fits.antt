@@ -1,24 +1,29 @@
--- The ranges in which the laws speak: each number and byte is one of its type, and the parameters are within their
--- limits.
-use Rattle.std.specs.Prelude.{ℕ, ◌^◌, ◌<◌, ◌≤◌, List}
+-- The ranges in which the laws speak: each number and byte is one of its type, where of the rules of a publication nothing
+-- is asked, and the parameters are within their limits.
+use Rattle.std.specs.Prelude.{◌^◌, ◌<◌, List}
 use Rattle.std.specs.List.{AllByRecursion}
 use Rattle.schc_bits.specs.Bits.{AreBytes}
 use Rattle.schc_ids.specs.declared.ends.EndParams.{EndParams}
-use Rattle.two_ends.specs.Events.{Event, Down, Slot, Deliver}
-
--- the most bytes of a frame that an end may be made with
-abbrev pub IsMtu : ℕ → Type 0
-IsMtu mtu = (15 ≤ mtu) × (mtu ≤ 242)
+use Rattle.event_data.specs.Events.{Event, Down, Slot, Deliver, Publish, Offer, Allow}
+pub use Rattle.end_core.specs.Data.{IsMtu}
 
 -- parameters that an end may be made with
 abbrev pub FitsParams : EndParams → Type 0
 FitsParams params = IsMtu params.mtu × (params.iids.dev < 2 ^ 64) × (params.iids.app < 2 ^ 64)
 
--- an event whose numbers and bytes are in the ranges of their types
+-- an event whose numbers and bytes are in the ranges of their types; of a publication only the edition's number is asked
 abbrev pub FitsEvent : Event → Type 0
 FitsEvent (Down role packet) = AreBytes packet
 FitsEvent (Slot role) = Unit {0}
 FitsEvent (Deliver direction number) = number < 2 ^ 64
+FitsEvent (Publish edition) = edition.number < 2 ^ 32
+FitsEvent (Offer role number) = number < 2 ^ 32
+FitsEvent (Allow role number) = number < 2 ^ 32
+
+-- an event that hands down bytes, if it hands down a packet: of the ranges this is all that matters for what is handed up
+abbrev pub HandsBytes : Event → Type 0
+HandsBytes (Down role packet) = AreBytes packet
+HandsBytes event = Unit {0}
 
 -- the parameters are within their limits, and each number and byte of the events is one of its type
 pub record Fits (params : EndParams) (events : List Event) : Type 0 where

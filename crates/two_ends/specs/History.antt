@@ -5,14 +5,16 @@ use Rattle.schc_ids.specs.Ends.{sent_direction}
 use Rattle.schc_ids.specs.declared.ends.EndParams.{EndParams}
 use Rattle.schc_ids.specs.declared.ends.Direction.{Direction}
 use Rattle.schc_ids.specs.declared.ends.Direction.TheVariants as way
-use Rattle.two_ends.specs.Events.{HandUpData, Event, Down, Slot, Deliver}
+use Rattle.event_data.specs.Records.{HandUpData}
+use Rattle.event_data.specs.Events.{Event, Down, Slot, Deliver}
+use Rattle.event_data.specs.declared.outcomes.Accepted.{Accepted}
+use Rattle.event_data.specs.declared.outcomes.Line.{Line}
+use Rattle.event_data.specs.declared.outcomes.Line.TheVariants as line
+use Rattle.event_data.specs.declared.outcomes.StepFault.{StepFault}
 use Rattle.two_ends.specs.World.{WorldData, beginning, numbered, step}
-use Rattle.two_ends.specs.declared.outcomes.Accepted.{Accepted}
-use Rattle.two_ends.specs.declared.outcomes.Line.{Line}
-use Rattle.two_ends.specs.declared.outcomes.Line.TheVariants as line
-use Rattle.two_ends.specs.declared.outcomes.StepFault.{StepFault}
 
--- a packet that was handed down and taken: by which event (counted from 0), for which direction, and how it goes
+-- a packet that was handed down and taken: by which event (counted from 0), for which direction, and how it goes: with
+-- which edition of rules it is written, under which RuleID, and in how many bits
 pub record HandedDown : Type 0 where
   pub place : ℕ
   pub direction : Direction

@@ -1,6 +1,3 @@
-pub mod Records
-pub mod Events
-pub mod End
 pub mod World
 pub mod Fits
 pub mod History

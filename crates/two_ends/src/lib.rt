@@ -1,19 +1,12 @@
-//! Both ends of one link, and the network between them: a machine that takes one event at a time and
-//! says its outcome (RFC 8724, RFC 9011).
+//! Both ends of one link, the network between them, and the editions of rules that are published: a
+//! machine that takes one event at a time and says its outcome (RFC 8724, RFC 9011).
 #![tactic(auto)]
 
-mod end;
-mod events;
-mod frames;
+mod chain;
 pub mod laws;
-mod outcomes;
 #[cfg(test)]
 mod tests;
 mod world;
 
-pub use end::DownFault;
-pub use events::WorldEvent;
-pub use frames::{Frame, HandUp};
-pub use outcomes::{Accepted, Emission, EmitKind, Emitted, Line, Note, StepFault, Taken};
-pub use schc_ids::{Direction, EndParams, Iids, Role};
+pub use event_data::{Line, StepFault, WorldEvent};
 pub use world::World;

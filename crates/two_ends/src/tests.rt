@@ -1,8 +1,7 @@
-use crate::{
-    Accepted, Direction, DownFault, EmitKind, EndParams, Iids, Line, Note, Role, StepFault, World,
-    WorldEvent,
-};
+use crate::{Line, StepFault, World, WorldEvent};
+use event_data::{Accepted, DownFault, EmitKind, Note, Offered};
 use schc_bits::Octets;
+use schc_ids::{Direction, EndParams, Iids, Role};
 use std::alloc::{AllocError, Global};
 use std::test::Fail;
 
@@ -68,6 +67,22 @@ fn hands_up(world: &mut World, number: u64, packet: &[u8]) -> Result<bool, StepF
     }
 }
 
+/// What the device answers to the edition with this number.
+fn offered(world: &mut World, number: u32) -> Result<Option<Offered>, StepFault> {
+    match world.step(&WorldEvent::Offer(Role::Device, number))? {
+        Line::Offer(offered) => Ok(Some(offered)),
+        _ => Ok(None),
+    }
+}
+
+/// Whether the device writes with the edition with this number from now on.
+fn allowed(world: &mut World, number: u32) -> Result<bool, StepFault> {
+    match world.step(&WorldEvent::Allow(Role::Device, number))? {
+        Line::Allow(allowed) => Ok(allowed),
+        _ => Ok(false),
+    }
+}
+
 #[test]
 fn one_packet_under_rule_22(rt: HostRuntime) -> Result<(), Fail> {
     let alloc = rt.alloc();
@@ -101,6 +116,9 @@ fn refusals(rt: HostRuntime) -> Result<(), Fail> {
     assert_eq!(rt; short, Err(DownFault::NotIpv6));
     let long = handed(&mut world, alloc, [0x60; 243].as_slice())?;
     assert_eq!(rt; long, Err(DownFault::TooLong));
+    assert_eq!(rt; offered(&mut world, 0)?, Some(Offered::Older));
+    assert_eq!(rt; offered(&mut world, 1), Err(StepFault::NoSuchEdition(1)));
+    assert!(rt; !allowed(&mut world, 1)?);
     for number in 0..2 {
         let fault = hands_up(&mut world, number, PACKET.as_slice()).err();
         assert_eq!(rt; fault, Some(StepFault::NoSuchFrame(number)));

@@ -1,26 +1,35 @@
-ghost use Rattle.std.specs.Prelude.{◌≡◌, slice_get, IfOk, IfErr, OnErr, ◌⊎◌};
+ghost use Rattle.std.specs.Prelude.{◌≡◌, IfOk, IfErr, OnErr, ◌⊎◌};
 ghost use Rattle.std.specs.Option.{option_copied};
+ghost use Rattle.event_data.specs.Events.{view_event, Down, Slot, Deliver, Publish, Offer, Allow};
+ghost use Rattle.event_data.specs.Records.{FrameData};
+ghost use Rattle.event_data.specs.Outcomes.{IsNote, IsOutcome};
+ghost use Rattle.end_core.specs.End.{slot_step, take_step};
 ghost use Rattle.two_ends.specs.Fits.{IsMtu};
-ghost use Rattle.two_ends.specs.Events.{view_event, Down, Slot, Deliver};
-ghost use Rattle.two_ends.specs.World.{beginning, numbered, step, Emits};
+ghost use Rattle.two_ends.specs.World.{beginning, numbered, step, sent_after};
 
-use crate::end::{DownFault, End, taken};
-use crate::events::WorldEvent;
-use crate::frames::Frame;
-use crate::outcomes::{Emission, EmitKind, Emitted, Line, StepFault};
-use schc_bits::{CopyItem, ItemList};
+use crate::chain::Chain;
+use end_core::End;
+use event_data::{DownFault, Emission, Frame, Line, StepFault, Taken, WorldEvent};
+use publishing::{PublishFault, publish};
+use rule_model::RawEdition;
+use schc_bits::{ItemList, Octets};
 use schc_ids::{Direction, EndParams, Role};
 use std::alloc::{AllocError, Global};
 use std::marker::Model;
 
-/// Both ends of one link, with every frame that was ever sent.
+/// The most bytes that a frame of an end has.
+const MAX_FRAME: usize = 242;
+
+/// Both ends of one link, the editions of rules that were published, and every frame that was ever
+/// sent.
 ///
-/// Contracts see it as the two ends with their queues, and the two lists of frames.
+/// Contracts see it as the two ends, the chain of editions, and the two lists of frames.
 #[derive(Drop)]
 pub struct World {
     alloc: Global,
     device: End,
     gateway: End,
+    chain: Chain,
     up: ItemList<Frame>,
     down: ItemList<Frame>,
 }
@@ -30,11 +39,11 @@ impl Model for World {
 
     ghost Value = { WorldData };
 
-    ghost view = { λ w. record { device = w.device; gateway = w.gateway; up = w.up.items; down = w.down.items } };
+    ghost view = { λ w. record { device = w.device; gateway = w.gateway; chain = w.chain; up = w.up.items; down = w.down.items } };
 }
 
 impl World {
-    /// Two new ends, and no frame.
+    /// Two new ends, the empty edition 0, and no frame.
     ///
     /// # Errors
     /// Want of memory.
@@ -44,8 +53,9 @@ impl World {
     {
         Ok(World {
             alloc,
-            device: End::new(alloc, params),
-            gateway: End::new(alloc, params),
+            device: End::new(alloc, Role::Device, params)?,
+            gateway: End::new(alloc, Role::Gateway, params)?,
+            chain: Chain::new(alloc)?,
             up: ItemList::new(alloc),
             down: ItemList::new(alloc),
         })
@@ -55,16 +65,21 @@ impl World {
     ///
     /// # Errors
     /// `NoSuchFrame` exactly where no frame with the number that is to be delivered was sent in the
-    /// direction, and want of memory. Nothing has changed then.
+    /// direction, `NoSuchEdition` exactly where no edition with the number that is to be offered was
+    /// published, and want of memory. Nothing has changed then.
     pub fn step(&mut self, event: &WorldEvent) -> Result<Line, StepFault>
         ensures done { IfOk result (λ line. step self.old (view_event event.now) ≡ (self.new, Ok line)) }
         ensures refused { IfErr result (λ fault. (fault ≡ StepFault.Memory) ⊎ (step self.old (view_event event.now) ≡ (self.old, Err fault))) }
         ensures unchanged { OnErr result (self.new ≡ self.old) }
+        ensures outcome { IfOk result (λ line. IsOutcome line) }
     {
         match event {
             WorldEvent::Down(role, packet) => self.down(*role, packet.as_slice()),
             WorldEvent::Slot(role) => self.slot(*role),
             WorldEvent::Deliver(direction, number) => self.deliver(*direction, *number),
+            WorldEvent::Publish(edition) => self.publish(edition),
+            WorldEvent::Offer(role, number) => self.offer(*role, *number),
+            WorldEvent::Allow(role, number) => Ok(self.allow(*role, *number)),
         }
     }
 
@@ -77,6 +92,7 @@ impl World {
         ensures done { IfOk result (λ line. step self.old (Down role packet.now) ≡ (self.new, Ok line)) }
         ensures refused { IfErr result (λ fault. fault ≡ StepFault.Memory) }
         ensures unchanged { OnErr result (self.new ≡ self.old) }
+        ensures outcome { IfOk result (λ line. IsOutcome line) }
     {
         let answer = match role {
             Role::Device => self.device.down(packet),
@@ -98,6 +114,7 @@ impl World {
         ensures done { IfOk result (λ line. step self.old (Slot role) ≡ (self.new, Ok line)) }
         ensures refused { IfErr result (λ fault. fault ≡ StepFault.Memory) }
         ensures unchanged { OnErr result (self.new ≡ self.old) }
+        ensures outcome { IfOk result (λ line. IsOutcome line) }
     {
         let emitted = match role {
             Role::Device => emit(self.alloc, &mut self.device, &mut self.up),
@@ -112,52 +129,133 @@ impl World {
     /// Lets a frame arrive that was sent in the direction, by its number from 1.
     ///
     /// # Errors
-    /// `NoSuchFrame` exactly where there is none with this number, and want of memory.
+    /// `NoSuchFrame` exactly where there is none with this number, and want of memory. Nothing has
+    /// changed then.
     #[tactic(auto, unfolding(crate::specs::World::step, crate::specs::World::deliver_step))]
-    fn deliver(&self, direction: Direction, number: u64) -> Result<Line, StepFault>
-        ensures done { IfOk result (λ line. step self.now (Deliver direction number) ≡ (self.now, Ok line)) }
-        ensures refused { IfErr result (λ fault. (fault ≡ StepFault.Memory) ⊎ (step self.now (Deliver direction number) ≡ (self.now, Err fault))) }
+    fn deliver(&mut self, direction: Direction, number: u64) -> Result<Line, StepFault>
+        ensures done { IfOk result (λ line. step self.old (Deliver direction number) ≡ (self.new, Ok line)) }
+        ensures refused { IfErr result (λ fault. (fault ≡ StepFault.Memory) ⊎ (step self.old (Deliver direction number) ≡ (self.old, Err fault))) }
+        ensures unchanged { OnErr result (self.new ≡ self.old) }
+        ensures outcome { IfOk result (λ line. IsOutcome line) }
     {
-        let frames = match direction {
-            Direction::Up => &self.up,
-            Direction::Down => &self.down,
+        let taken = match direction {
+            Direction::Up => arrive(&mut self.gateway, &self.up, number)?,
+            Direction::Down => arrive(&mut self.device, &self.down, number)?,
         };
-        let Some(frame) = frame_at(frames, number) else {
-            return Err(StepFault::NoSuchFrame(number));
+        Ok(Line::Deliver(taken))
+    }
+
+    /// Publishes an edition of rules, which is the last one of the chain then, unless there is a
+    /// finding.
+    ///
+    /// # Errors
+    /// Want of memory; nothing has changed then.
+    #[tactic(auto, unfolding(crate::specs::World::step, crate::specs::World::publish_step))]
+    fn publish(&mut self, raw: &RawEdition) -> Result<Line, StepFault>
+        ensures done { IfOk result (λ line. step self.old (Publish raw.now) ≡ (self.new, Ok line)) }
+        ensures refused { IfErr result (λ fault. fault ≡ StepFault.Memory) }
+        ensures unchanged { OnErr result (self.new ≡ self.old) }
+        ensures outcome { IfOk result (λ line. IsOutcome line) }
+    {
+        let edition = match publish(self.alloc, self.chain.last(), raw) {
+            Ok(edition) => edition,
+            Err(PublishFault::Found(finding)) => return Ok(Line::Refused(finding)),
+            Err(PublishFault::Memory) => return Err(StepFault::Memory),
         };
-        match taken(self.alloc, frame) {
-            Ok(answer) => Ok(Line::Deliver(answer)),
+        let number = edition.number();
+        match self.chain.push(edition) {
+            Ok(()) => Ok(Line::Published(number)),
             Err(_) => Err(StepFault::Memory),
         }
     }
+
+    /// Offers an end the edition with this number.
+    ///
+    /// # Errors
+    /// `NoSuchEdition` exactly where none with this number was published, and want of memory. Nothing
+    /// has changed then.
+    #[tactic(auto, unfolding(crate::specs::World::step, crate::specs::World::offer_step))]
+    fn offer(&mut self, role: Role, number: u32) -> Result<Line, StepFault>
+        ensures done { IfOk result (λ line. step self.old (Offer role number) ≡ (self.new, Ok line)) }
+        ensures refused { IfErr result (λ fault. (fault ≡ StepFault.Memory) ⊎ (step self.old (Offer role number) ≡ (self.old, Err fault))) }
+        ensures unchanged { OnErr result (self.new ≡ self.old) }
+        ensures outcome { IfOk result (λ line. IsOutcome line) }
+    {
+        let Some(edition) = self.chain.at(number) else {
+            return Err(StepFault::NoSuchEdition(number));
+        };
+        let edition = match edition.clone() {
+            Ok(edition) => edition,
+            Err(_) => return Err(StepFault::Memory),
+        };
+        let offered = match role {
+            Role::Device => self.device.offer(edition),
+            Role::Gateway => self.gateway.offer(edition),
+        };
+        Ok(Line::Offer(offered))
+    }
+
+    /// Allows an end to write with the edition with this number.
+    #[tactic(auto, unfolding(crate::specs::World::step, crate::specs::World::allow_step))]
+    fn allow(&mut self, role: Role, number: u32) -> Line
+        ensures done { step self.old (Allow role number) ≡ (self.new, Ok result) }
+        ensures outcome { IsOutcome result }
+    {
+        let allowed = match role {
+            Role::Device => self.device.allow(number),
+            Role::Gateway => self.gateway.allow(number),
+        };
+        Line::Allow(allowed)
+    }
 }
 
-/// Sends the first packet that waits at the end, if one does, as the next of these frames.
+/// Lets an end send the frame that is due, if one is, as the next of these frames.
 ///
 /// # Errors
 /// Want of memory; nothing has changed then.
+#[tactic(auto, unfolding(crate::specs::World::sent_after))]
 fn emit(
     alloc: Global,
     end: &mut End,
     frames: &mut ItemList<Frame>,
 ) -> Result<Option<Emission>, AllocError>
-    ensures done { IfOk result (λ emission. Emits end.old frames.old.items (slice_get end.old.queue 0) end.new frames.new.items emission) }
+    ensures end { IfOk result (λ _. (slot_step end.old).0 ≡ end.new) }
+    ensures sent { IfOk result (λ emission. sent_after frames.old.items (slot_step end.old).1 ≡ (frames.new.items, emission)) }
     ensures unchanged { OnErr result ((end.new ≡ end.old) × (frames.new.items ≡ frames.old.items)) }
 {
-    let Some(frame) = end.first_frame()? else {
+    frames.reserve(1)?;
+    let mut bytes = Octets::new(alloc);
+    bytes.reserve(MAX_FRAME)?;
+    let Some(emitted) = end.slot()? else {
         return Ok(None);
     };
-    let kept = frame.copy_item(alloc)?;
-    frames.reserve(1)?;
-    end.pass();
-    frames.put(kept);
+    let port = emitted.frame.port;
+    bytes.put_all(emitted.frame.bytes.as_slice());
+    frames.put(Frame { port, bytes });
     Ok(Some(Emission {
         number: frames.len() as u64,
-        emitted: Emitted {
-            frame,
-            kind: EmitKind::Whole,
-        },
+        emitted,
     }))
+}
+
+/// Lets the frame with this number, counted from 1, arrive at an end.
+///
+/// # Errors
+/// `NoSuchFrame` exactly where there is none with this number, and want of memory. Nothing has
+/// changed then.
+fn arrive(end: &mut End, frames: &ItemList<Frame>, number: u64) -> Result<Taken, StepFault>
+    ensures done { IfOk result (λ taken. (frame : FrameData) × (numbered frames.now.items number ≡ Some frame) × (take_step end.old frame ≡ (end.new, taken))) }
+    ensures refused { IfErr result (λ fault. (fault ≡ StepFault.Memory) ⊎ ((fault ≡ StepFault.NoSuchFrame number) × (numbered frames.now.items number ≡ None))) }
+    ensures unchanged { OnErr result (end.new ≡ end.old) }
+    ensures note { IfOk result (λ taken. IsNote taken.note) }
+{
+    let Some(frame) = frame_at(frames, number) else {
+        return Err(StepFault::NoSuchFrame(number));
+    };
+    match end.take(frame) {
+        Ok(taken) => Ok(taken),
+        Err(_) => Err(StepFault::Memory),
+    }
 }
 
 /// The frame with this number, counted from 1.

@@ -1,0 +1,97 @@
+-- What a frame gives back of a packet that an edition wrote.
+use Rattle.std.proofs.Common.{◌≡◌, ℕ, ◌==◌, ◌<◌, Bool, true, false, not, ◌&&◌, ◌||◌, cond, List, ◌++◌, take, Option, Some, None, Ok, nat_lt, refl, sym, ap, subst, ◌∙◌, arith}
+use Rattle.std.proofs.lemmas.List.Elements.{All-contains}
+use Rattle.std.proofs.lemmas.Bool.{lt-ltb, ltb-true, ltb-false}
+use Rattle.schc_bits.specs.Bits.{number_bits, bits_value, octets, AreBytes}
+use Rattle.schc_bits.proofs.NumberBits.{bits_value-number_bits}
+use Rattle.schc_ids.specs.declared.ends.Direction.{Direction}
+use Rattle.schc_ids.specs.declared.ends.Iids.{Iids}
+use Rattle.rule_model.specs.declared.finding.Row.TheVariants as row
+use Rattle.rule_model.specs.Data.{RuleData}
+use Rattle.rule_model.specs.Findings.{IsAdmitted, id_out_of_range, id_reserved}
+use Rattle.editions.specs.Data.{EditionData}
+use Rattle.packer.specs.UnpackedData.{UnpackedData}
+use Rattle.packer.specs.Packets.{is_ipv6}
+use Rattle.packer.specs.Schc.{IsChosen}
+use Rattle.packer.specs.Packing.{packed}
+use Rattle.packer.specs.Unpacking.{unpacked}
+use Rattle.packer.specs.Laws.{IsSound, AgreeOn, IsReadAs}
+use Rattle.end_core.specs.End.{frame_of, carried, is_whole}
+use Rattle.end_core.proofs.FrameLemmas.{frame_padding, length-frame_padding, carried-frame_of}
+use Rattle.end_core.proofs.PackedLemmas.{packed-begins}
+use Rattle.packer.proofs.ChosenLemmas.{packed-chosen}
+use Rattle.packer.proofs.WrittenLemmas.{reads_what_was_written}
+use Rattle.two_ends.proofs.AgreeLemmas.{IsKnown, chosen-known, read-known}
+
+-- the first 8 bits behind a RuleID in front
+id-bits : (id : ℕ) (rest : List Bool) → take 8 (number_bits 8 id ++ rest) ≡ number_bits 8 id
+unfolding number_bits
+id-bits id rest = refl
+
+-- a test of which one part or the other holds
+or-false : (a b : Bool) → (a || b) ≡ false → (a ≡ false) × (b ≡ false)
+or-false true b e = absurd cc
+or-false false b e = (refl, e)
+
+none-false : (b : Bool) (o : Option ℕ) → cond b (Some 0) o ≡ None → b ≡ false
+none-false true o e = absurd cc
+none-false false o e = refl
+
+below-cases : (id : ℕ) → nat_lt 223 id ≡ false → nat_lt id 224 ≡ true
+below-cases id e = lt-ltb id 224 (omega (arith, ltb-false 223 id e))
+
+whole-parts : (a b c d e f : Bool) → a ≡ false → b ≡ false → c ≡ false → d ≡ false → e ≡ false → f ≡ true → (not a && not b && not c && not d && not e && f) ≡ true
+whole-parts a b c d e f ea eb ec ed ee ef = rw (ea, eb, ec, ed, ee, ef) refl
+
+-- an admitted rule's RuleID is a port by which whole SCHC packets come
+admitted-whole : (rule : RuleData) → IsAdmitted rule → is_whole rule.id ≡ true
+unfolding is_whole
+admitted-whole rule admitted =
+    let range : id_out_of_range rule ≡ false = none-false (id_out_of_range rule) _ (admitted row.IdOutOfRange) in
+    let reserved : id_reserved rule ≡ false = none-false (id_reserved rule) _ (admitted row.IdReserved) in
+    let r = or-false (rule.id == 0) (nat_lt 223 rule.id) range in
+    let a = or-false _ (rule.id == 223) reserved in
+    let b = or-false _ (rule.id == 222) a.0 in
+    let c = or-false _ (rule.id == 22) b.0 in
+    let d = or-false (rule.id == 20) (rule.id == 21) c.0 in
+    whole-parts (rule.id == 0) (rule.id == 20) (rule.id == 21) (rule.id == 222) (rule.id == 223) (nat_lt rule.id 224) r.0 d.0 d.1 b.1 a.1 (below-cases rule.id r.1)
+
+-- the RuleID that is chosen is such a port
+chosen-whole : (edition : EditionData) (iids : Iids) (way : Direction) (packet : List ℕ) (id : ℕ) (bits : List Bool) → IsSound edition → IsChosen edition iids way packet id bits → is_whole id ≡ true
+unfolding is_whole
+chosen-whole edition iids way packet id bits sound (IsChosen.by_rule listed form candidate least) =
+    admitted-whole listed.rule (All-contains (λ other. IsAdmitted other.rule) edition.rules listed sound.admitted candidate.listing)
+chosen-whole edition iids way packet id bits sound (IsChosen.by_none none) = refl
+
+and-last : (a b : Bool) → (a && b) ≡ true → b ≡ true
+and-last true b e = e
+and-last false b e = absurd cc
+
+whole-below : (id : ℕ) → is_whole id ≡ true → id < 256
+unfolding is_whole
+whole-below id e = omega (arith, ltb-true id 224 (and-last _ (nat_lt id 224) e))
+
+-- a written packet's RuleID is such a port
+pub packed-whole : (edition : EditionData) (iids : Iids) (way : Direction) (packet : List ℕ) → IsSound edition → AreBytes packet → is_whole (packed edition iids way packet).rule_id ≡ true
+packed-whole edition iids way packet sound bytes =
+    chosen-whole edition iids way packet (packed edition iids way packet).rule_id (packed edition iids way packet).bits sound (packed-chosen edition iids way packet sound bytes)
+
+-- the edition that wrote it knows its RuleID
+pub packed-known : (edition : EditionData) (iids : Iids) (way : Direction) (packet : List ℕ) → IsSound edition → AreBytes packet → IsKnown edition (packed edition iids way packet).rule_id
+packed-known edition iids way packet sound bytes =
+    chosen-known edition iids way packet (packed edition iids way packet).rule_id (packed edition iids way packet).bits sound.ascending (packed-chosen edition iids way packet sound bytes)
+
+-- a reader that agrees on the RuleID reads the frame as the packet that the other end restores
+pub reads-frame : (writer reader : EditionData) (iids : Iids) (way : Direction) (packet : List ℕ) → IsSound writer → IsSound reader → AreBytes packet → is_ipv6 packet ≡ true → AgreeOn writer reader (packed writer iids way packet).rule_id → IsReadAs writer reader iids way packet (packed writer iids way packet).rule_id (carried (frame_of (packed writer iids way packet)))
+reads-frame writer reader iids way packet written read bytes ipv6 agree =
+    let p = packed writer iids way packet in
+    subst (λ bits. IsReadAs writer reader iids way packet p.rule_id bits) (sym (carried-frame_of p (packed-begins writer iids way packet)))
+    (reads_what_was_written writer reader iids way packet (frame_padding p) written read bytes ipv6 (length-frame_padding p) agree)
+
+-- a reader that reads the frame knows its RuleID
+pub reader-knows : (writer reader : EditionData) (iids : Iids) (way : Direction) (packet : List ℕ) (read : UnpackedData) → IsSound writer → AreBytes packet → unpacked reader iids way (carried (frame_of (packed writer iids way packet))) ≡ Ok read → IsKnown reader (packed writer iids way packet).rule_id
+reader-knows writer reader iids way packet read sound bytes given =
+    let p = packed writer iids way packet in
+    subst (IsKnown reader)
+    (ap bits_value (id-bits p.rule_id (octets (frame_of p).bytes)) ∙ bits_value-number_bits 8 p.rule_id (whole-below p.rule_id (packed-whole writer iids way packet sound bytes)))
+    (read-known reader iids way (carried (frame_of p)) read given)
