@@ -1,2 +1,3 @@
 pub mod TextLemmas
+pub mod BytesLemmas
 pub mod AnswersLemmas

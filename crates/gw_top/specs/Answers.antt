@@ -1,13 +1,20 @@
 -- What `run` answers, and what it did to its source and its sink.
-use Rattle.std.specs.Prelude.{◌≡◌, ℕ, ◌+◌, ◌<◌, ◌≤◌, ◌⊎◌, nat_lt, if◌then◌else◌, List, [], ◌∷◌, length, take, map, Option, Some, None, codes}
+use Rattle.std.specs.Prelude.{◌≡◌, ℕ, ◌+◌, ◌<◌, ◌≤◌, ◌⊎◌, nat_lt, if◌then◌else◌, List, length, take, map, Option, Some, None, Ok, Err}
 use Rattle.std.specs.Io.KnownBytes.{Consumes, Appends, Keeps, IsAtEnd}
 use Rattle.outside.specs.Counting.{Rose}
 use Rattle.outside.specs.Reading.{HasMore}
-use Rattle.two_ends.specs.Safe.{AlwaysSafe}
-use Rattle.gw_top.specs.ScriptData.{ScriptEventData, ScriptData}
+use Rattle.rule_model.specs.declared.finding.Finding.{Finding}
+use Rattle.schc_ids.specs.declared.ends.EndParams.{EndParams}
+use Rattle.event_data.specs.Events.{Event}
+use Rattle.two_ends.specs.History.{start, run}
+use Rattle.two_ends.specs.Safe.{IsSafe}
+use Rattle.gw_top.specs.ScriptData.{ScriptData, params_of}
 use Rattle.gw_top.specs.Script.{script_of}
-use Rattle.gw_top.specs.Lines.{printed}
-use Rattle.gw_top.specs.declared.script.DeviceLine.{DeviceLine}
+use Rattle.gw_top.specs.Work.{OutputData}
+use Rattle.gw_top.specs.Output.{output_of}
+use Rattle.gw_top.specs.Words.{command_of}
+use Rattle.gw_top.specs.declared.words.Command.{Command}
+use Rattle.gw_top.specs.declared.words.Command.TheVariants.{Sim}
 use Rattle.gw_top.specs.declared.status.Counted.TheVariants.{Bytes}
 use Rattle.gw_top.specs.declared.status.Status.{Status}
 use Rattle.gw_top.specs.declared.status.Status.TheVariants as status
@@ -15,10 +22,6 @@ use Rattle.gw_top.specs.declared.status.Status.TheVariants as status
 -- the most bytes of an input
 abbrev pub input_limit : ℕ
 input_limit = 67108864
-
--- the words are the one word `sim`
-abbrev pub IsSim : List (List ℕ) → Type 0
-IsSim words = words ≡ codes "sim" ∷ []
 
 -- what a call of `run` was given, and what it left: its words, what is left of the source and what was written to the
 -- sink, each before and after, where they tell it, and their counts of faults
@@ -33,50 +36,71 @@ pub record Call : Type 0 where
   pub write_faults : ℕ
   pub write_faults_after : ℕ
 
+-- the words name a command
+pub record NamesCommand (call : Call) : Type 0 where
+  pub command : Command
+  pub named : command_of call.words ≡ Ok command
+
 -- the source was read to its end, and this text, which is within the limit, is what it had
 pub record IsRead (call : Call) (text : List ℕ) : Type 0 where
   pub consumed : Consumes call.left call.left_after text
   pub ended : IsAtEnd call.left_after
   pub within : length text ≤ input_limit
 
--- in the world of the device, after each event of the script, each packet that was handed up is one that was handed
--- down earlier at the other end
-abbrev pub IsSafeRun : Option DeviceLine → List ScriptEventData → Type 0
-IsSafeRun None events = Unit {0}
-IsSafeRun (Some device) events = AlwaysSafe device.params (map (λ e. e.event) events)
+-- in a world with these parameters, after each of these events, each packet that was handed up is one that was handed down
+-- earlier at the other end, but for fields that its rule drops, written and read by one rule of the editions published there
+abbrev pub IsSafeRun : EndParams → List Event → Type 0
+IsSafeRun params events = (n : ℕ) → IsSafe params.iids (run (take n events) (start params))
 
--- the headline for a call: where the source was read to its end and its text is a script, the script's run is safe
+-- the headline for a call: where the words are `sim`, the source was read to its end and its text is a script, the script's
+-- run is safe
 abbrev pub Headline : Status → Call → Type 0
 Headline status.Ok call =
-    (text : List ℕ) (script : ScriptData) → IsRead call text → script_of text ≡ Some script →
-    IsSafeRun script.device script.events
+    (text : List ℕ) (script : ScriptData) → command_of call.words ≡ Ok Sim → IsRead call text → script_of text ≡ Some script →
+    IsSafeRun (params_of script.device) (map (λ e. e.event) script.events)
 Headline answer call = Unit {0}
 
--- the source was read to its end, and the text is this script
-pub record IsRunOf (call : Call) (script : ScriptData) : Type 0 where
+-- the words name a command, the source was read to its end, and this is what the command makes of the text
+pub record IsOutputOf (call : Call) (output : OutputData) : Type 0 where
+  pub command : Command
+  pub named : command_of call.words ≡ Ok command
   pub text : List ℕ
   pub read : IsRead call text
-  pub spelled : script_of text ≡ Some script
+  pub means : output_of command text ≡ Some output
 
--- all that is printed for the script was written
+-- the command ends without a finding, and all that it prints was written
 pub record WritesAll (call : Call) : Type 0 where
-  pub script : ScriptData
-  pub run : IsRunOf call script
-  pub written : Appends call.written call.written_after (printed script)
+  pub output : OutputData
+  pub its_output : IsOutputOf call output
+  pub no_finding : output.refused ≡ None
+  pub written : Appends call.written call.written_after output.text
 
--- the first bytes of what is printed for the script were written, and not all
+-- the command ends without a finding, and the first bytes of what it prints were written, and not all
 pub record WritesFront (call : Call) : Type 0 where
-  pub script : ScriptData
-  pub run : IsRunOf call script
+  pub output : OutputData
+  pub its_output : IsOutputOf call output
+  pub no_finding : output.refused ≡ None
   pub size : ℕ
-  pub not_all : size < length (printed script)
-  pub written : Appends call.written call.written_after (take size (printed script))
+  pub not_all : size < length output.text
+  pub written : Appends call.written call.written_after (take size output.text)
 
--- the source was read to its end, and the text is no script
+-- the command ends with this finding, and what it prints up to there was written: all of it, or the first bytes where a
+-- write failed
+pub record IsRefused (call : Call) (finding : Finding) : Type 0 where
+  pub output : OutputData
+  pub its_output : IsOutputOf call output
+  pub the_finding : output.refused ≡ Some finding
+  pub size : ℕ
+  pub all_or_fault : (length output.text ≤ size) ⊎ Rose call.write_faults call.write_faults_after
+  pub written : Appends call.written call.written_after (take size output.text)
+
+-- the words name a command, the source was read to its end, and the text is outside the command's grammar
 pub record IsOutsideGrammar (call : Call) : Type 0 where
+  pub command : Command
+  pub named : command_of call.words ≡ Ok command
   pub text : List ℕ
   pub read : IsRead call text
-  pub no_script : script_of text ≡ None
+  pub no_output : output_of command text ≡ None
 
 -- the source has more bytes than the limit, of which one more than the limit was read
 pub record IsTooLong (call : Call) : Type 0 where
@@ -99,31 +123,35 @@ pub record TouchesNothing (call : Call) : Type 0 where
 
 -- what each status says of the call
 abbrev pub Answers : Status → Call → Type 0
-Answers status.Ok call = IsSim call.words × WritesAll call
-Answers (status.Usage place) call = (place ≡ 1) × ¬ (IsSim call.words) × TouchesNothing call
-Answers (status.BadInput line) call =
-    (line ≡ 0) × IsSim call.words × IsOutsideGrammar call × Keeps call.written call.written_after
+Answers status.Ok call = WritesAll call
+Answers (status.Refused finding) call = IsRefused call finding
+Answers (status.Usage place) call = (command_of call.words ≡ Err place) × TouchesNothing call
+Answers (status.BadInput line) call = (line ≡ 0) × IsOutsideGrammar call × Keeps call.written call.written_after
 Answers status.ReadFault call =
-    IsSim call.words × Rose call.read_faults call.read_faults_after × ReadsFront call input_limit
-Answers status.WriteFault call =
-    IsSim call.words × Rose call.write_faults call.write_faults_after × WritesFront call
-Answers status.Memory call = IsSim call.words × ReadsFront call (input_limit + 1)
+    NamesCommand call × Rose call.read_faults call.read_faults_after × ReadsFront call input_limit
+Answers status.WriteFault call = Rose call.write_faults call.write_faults_after × WritesFront call
+Answers status.Memory call = NamesCommand call × ReadsFront call (input_limit + 1)
 Answers (status.Limit counted number) call =
-    (counted ≡ Bytes) × (number ≡ input_limit + 1) × IsSim call.words × IsTooLong call × Keeps call.written call.written_after
+    (counted ≡ Bytes) × (number ≡ input_limit + 1) × NamesCommand call × IsTooLong call × Keeps call.written call.written_after
 
--- the status for a source with this text, want of memory and faults aside
-abbrev pub status_of : Option ScriptData → Status
-status_of (Some script) = status.Ok
+-- the status for what a command makes of its input, want of memory and faults aside
+abbrev pub status_with : Option Finding → Status
+status_with None = status.Ok
+status_with (Some finding) = status.Refused finding
+
+abbrev pub status_of : Option OutputData → Status
 status_of None = status.BadInput 0
+status_of (Some output) = status_with output.refused
 
--- the same, by its length first
-abbrev pub expected : List ℕ → Status
-expected text = if nat_lt input_limit (length text) then status.Limit Bytes (input_limit + 1) else status_of (script_of text)
+-- the same for a text, by its length first
+abbrev pub expected : Command → List ℕ → Status
+expected command text =
+    if nat_lt input_limit (length text) then status.Limit Bytes (input_limit + 1) else status_of (output_of command text)
 
--- where the words are `sim`, the source tells its text, and no call of source or sink failed, the status is the one
+-- where the words name a command, the source tells its text, and no call of source or sink failed, the status is the one
 -- for that text, want of memory aside
 abbrev pub IsComplete : Status → Call → Type 0
 IsComplete answer call =
-    (text : List ℕ) → IsSim call.words → call.left ≡ Some text →
+    (command : Command) (text : List ℕ) → command_of call.words ≡ Ok command → call.left ≡ Some text →
     ¬ (Rose call.read_faults call.read_faults_after) → ¬ (Rose call.write_faults call.write_faults_after) →
-    (answer ≡ status.Memory) ⊎ (answer ≡ expected text)
+    (answer ≡ status.Memory) ⊎ (answer ≡ expected command text)

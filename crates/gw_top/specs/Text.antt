@@ -52,8 +52,8 @@ some_bytes [] = None
 some_bytes (byte ∷ bytes) = Some (byte ∷ bytes)
 
 -- the bytes that a word spells: two hex digits for each, in either case, and at least one byte
-unfoldable pub bytes_of : List ℕ → Option (List ℕ)
-bytes_of word = option_and_then some_bytes (read_value (decode_of word))
+unfoldable pub packet_in : List ℕ → Option (List ℕ)
+packet_in word = option_and_then some_bytes (read_value (decode_of word))
 
 -- the interface identifier that a word spells: 16 hex digits in either case, the highest first
 unfoldable pub iid_of : List ℕ → Option ℕ

@@ -1,19 +1,21 @@
 //! The commands without threads.
 
-ghost use Rattle.std.specs.Prelude.{◌≡◌, ◌↔◌, ◌≤◌, map, string_bytes, codes, IsTrue};
-ghost use Rattle.gw_top.specs.Answers.{IsSim, Call, Answers, Headline, IsComplete};
+ghost use Rattle.std.specs.Prelude.{ℕ, ◌≡◌, ◌↔◌, ◌≤◌, Err, map, string_bytes};
+ghost use Rattle.gw_top.specs.Words.{command_of};
+ghost use Rattle.gw_top.specs.Answers.{Call, Answers, Headline, IsComplete};
 
-use crate::script::parse;
-use crate::sim::simulate;
+use crate::output::output_for;
 use crate::status::{Counted, Status};
+use crate::words::command_in;
 use outside::{ReadAllFault, Sink, Source, read_all, write_all};
 use std::alloc::Global;
 
 /// The most bytes of an input.
 const INPUT_LIMIT: usize = 67_108_864;
 
-/// Runs the command that the words name: `sim` reads a script from the source and writes a line for each of its
-/// events to the sink.
+/// Runs the command that the words name: `check` reads a context, and writes a line for each of its editions; `pack`
+/// and `unpack` read a work file, and write a line for each of its packets; `sim` reads a script, and writes a line for
+/// each of its events.
 pub fn run<S: Source, K: Sink>(
     alloc: Global,
     words: &[String],
@@ -28,46 +30,33 @@ pub fn run<S: Source, K: Sink>(
 
     // For a source that tells its text, the status is determined, want of memory and faults aside.
     ensures complete { IsComplete result (record { words = map string_bytes words.now; left = S.left input.old; left_after = S.left input.new; read_faults = S.faults input.old; read_faults_after = S.faults input.new; written = K.written output.old; written_after = K.written output.new; write_faults = K.faults output.old; write_faults_after = K.faults output.new }) }
-    ensures usage { (result ≡ Status.Usage 1) ↔ ¬ (IsSim (map string_bytes words.now)) }
+    ensures usage { (place : ℕ) → (result ≡ Status.Usage place) ↔ (command_of (map string_bytes words.now) ≡ Err place) }
     ensures reads { S.faults input.old ≤ S.faults input.new }
     ensures writes { K.faults output.old ≤ K.faults output.new }
 {
-    if !is_sim(words) {
-        return Status::Usage(1);
-    }
+    let command = match command_in(words) {
+        Ok(command) => command,
+        Err(place) => return Status::Usage(place),
+    };
     let text = match read_all(alloc, input, INPUT_LIMIT) {
         Ok(text) => text,
         Err(ReadAllFault::Fault) => return Status::ReadFault,
         Err(ReadAllFault::TooLong) => return Status::Limit(Counted::Bytes, INPUT_LIMIT as u64 + 1),
         Err(ReadAllFault::Memory) => return Status::Memory,
     };
-    let script = match parse(alloc, text.as_slice()) {
-        Ok(Some(script)) => script,
+    let made = match output_for(alloc, command, text.as_slice()) {
+        Ok(Some(made)) => made,
         Ok(None) => return Status::BadInput(0),
         Err(_) => return Status::Memory,
     };
-    match simulate(alloc, &script) {
-        Ok(lines) => match write_all(output, lines.as_slice()) {
-            Ok(()) => Status::Ok,
-            Err(_) => Status::WriteFault,
+    match write_all(output, made.text.as_slice()) {
+        Ok(()) => match made.refused {
+            Some(finding) => Status::Refused(finding),
+            None => Status::Ok,
         },
-        Err(_) => Status::Memory,
+        Err(_) => match made.refused {
+            Some(finding) => Status::Refused(finding),
+            None => Status::WriteFault,
+        },
     }
-}
-
-/// True exactly where the words are the one word `sim`.
-fn is_sim(words: &[String]) -> bool
-    ensures { IsTrue result ↔ IsSim (map string_bytes words.now) }
-{
-    match words {
-        [word] => names_sim(word.as_str()),
-        _ => false,
-    }
-}
-
-/// True exactly where the word is `sim`.
-fn names_sim(word: &str) -> bool
-    ensures { IsTrue result ↔ (word.now ≡ codes "sim") }
-{
-    word == "sim"
 }

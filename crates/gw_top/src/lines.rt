@@ -1,16 +1,16 @@
 //! The line that is printed for an event and its outcome.
 
 ghost use Rattle.std.specs.Prelude.{◌≡◌, IfOk, codes, string_bytes};
-ghost use Rattle.std.specs.Option.{option_copied};
-ghost use Rattle.two_ends.specs.Events.{view_event};
-ghost use Rattle.gw_top.specs.Lines.{role_text, direction_text, bytes_text, event_text, accepted_text, refusal_text, kind_text, slot_text, note_text, up_text, outcome_text, line_text};
+ghost use Rattle.event_data.specs.Events.{view_event};
+ghost use Rattle.gw_top.specs.Lines.{role_text, direction_text, bytes_text, event_text, accepted_text, refusal_text, kind_text, slot_text, number_text, field_text, residue_text, unread_text, cause_text, note_text, up_text, finding_text, offered_text, allowed_text, said_text, line_of, line_text};
 
 use crate::script::ScriptEvent;
-use schc_ids::{Direction, Role};
-use std::alloc::{AllocError, Global};
-use two_ends::{
-    Accepted, DownFault, Emission, EmitKind, HandUp, Line, Note, StepFault, WorldEvent,
+use event_data::{
+    Accepted, Cause, DownFault, Emission, EmitKind, HandUp, Line, Note, Offered, Taken, WorldEvent,
 };
+use rule_model::Finding;
+use schc_ids::{Direction, FieldName, ResidueFault, Role, UnpackFault, text_of};
+use std::alloc::{AllocError, Global};
 
 fn role_text(role: Role) -> &'static str
     ensures { result.now ≡ role_text role }
@@ -49,16 +49,120 @@ fn kind_text(kind: EmitKind) -> &'static str
     }
 }
 
-fn note_text(note: Note) -> &'static str
-    ensures { result.now ≡ note_text note }
+fn residue_text(why: ResidueFault) -> &'static str
+    ensures { result.now ≡ residue_text why }
+{
+    match why {
+        ResidueFault::Short => "short",
+        ResidueFault::IndexTooLarge => "index",
+        ResidueFault::NonMinimalSize => "size",
+    }
+}
+
+fn allowed_text(allowed: bool) -> &'static str
+    ensures { result.now ≡ allowed_text allowed }
+{
+    if allowed { "yes" } else { "no" }
+}
+
+/// The name of a field: its text in rule text, and an option without one by its number.
+#[tactic(auto, unfolding(crate::specs::Lines::field_text, crate::specs::Lines::number_text))]
+fn field_text(alloc: Global, name: FieldName) -> Result<String, AllocError>
+    ensures { IfOk result (λ text. string_bytes text ≡ field_text name) }
+{
+    match text_of(name) {
+        Some(text) => String::from_str(alloc, text),
+        None => number_text(alloc, name),
+    }
+}
+
+#[tactic(auto, unfolding(crate::specs::Lines::number_text))]
+fn number_text(alloc: Global, name: FieldName) -> Result<String, AllocError>
+    ensures { IfOk result (λ text. string_bytes text ≡ number_text name) }
+{
+    match name {
+        FieldName::CoapOption(number) => format!(in alloc; "fid-coap-option-{number}"),
+        _ => Ok(String::new(alloc)),
+    }
+}
+
+/// Why bits are no packet.
+///
+/// # Errors
+/// Want of memory.
+#[tactic(auto, unfolding(crate::specs::Lines::unread_text))]
+pub(crate) fn unread_text(alloc: Global, fault: UnpackFault) -> Result<String, AllocError>
+    ensures { IfOk result (λ text. string_bytes text ≡ unread_text fault) }
+{
+    match fault {
+        UnpackFault::UnknownRule(id) => format!(in alloc; "unknown-rule {id}"),
+        UnpackFault::BadResidue(entry, why) => {
+            let why = residue_text(why);
+            format!(in alloc; "bad-residue {entry} {why}")
+        }
+        UnpackFault::BadPacket(at) => {
+            let name = field_text(alloc, at.name)?;
+            let position = at.position;
+            format!(in alloc; "bad-packet {name} {position}")
+        }
+        UnpackFault::Memory => String::from_str(alloc, "memory"),
+    }
+}
+
+/// Why a frame is refused.
+#[tactic(auto, unfolding(crate::specs::Lines::cause_text))]
+fn cause_text(alloc: Global, cause: Cause) -> Result<String, AllocError>
+    ensures { IfOk result (λ text. string_bytes text ≡ cause_text cause) }
+{
+    match cause {
+        Cause::UnknownPort => String::from_str(alloc, "port"),
+        Cause::Unpack(fault) => unread_text(alloc, fault),
+    }
+}
+
+/// What a frame meant.
+#[tactic(auto, unfolding(crate::specs::Lines::note_text))]
+fn note_text(alloc: Global, note: Note) -> Result<String, AllocError>
+    ensures { IfOk result (λ text. string_bytes text ≡ note_text note) }
 {
     match note {
-        Note::Small => "small",
+        Note::Small => String::from_str(alloc, "small"),
+        Note::Refused(cause) => {
+            let cause = cause_text(alloc, cause)?;
+            format!(in alloc; "refused {cause}")
+        }
+    }
+}
+
+/// A finding: its number, its name, and the rule and entry it is about, or 0.
+///
+/// # Errors
+/// Want of memory.
+#[tactic(auto, unfolding(crate::specs::Lines::finding_text))]
+pub(crate) fn finding_text(alloc: Global, finding: Finding) -> Result<String, AllocError>
+    ensures { IfOk result (λ text. string_bytes text ≡ finding_text finding) }
+{
+    let number = finding.number;
+    let name = finding.name();
+    let id = finding.id;
+    let entry = finding.entry;
+    format!(in alloc; "refused {number} {name} rule {id} entry {entry}")
+}
+
+/// What an end made of an edition that was offered.
+#[tactic(auto, unfolding(crate::specs::Lines::offered_text))]
+fn offered_text(alloc: Global, answer: Offered) -> Result<String, AllocError>
+    ensures { IfOk result (λ text. string_bytes text ≡ offered_text answer) }
+{
+    match answer {
+        Offered::Adopted => String::from_str(alloc, "adopted"),
+        Offered::Older => String::from_str(alloc, "older"),
+        Offered::Diverged(id) => format!(in alloc; "diverged {id}"),
     }
 }
 
 /// Bytes as hex text in lower case, and no bytes as a dash.
-fn bytes_text(alloc: Global, bytes: &[u8]) -> Result<String, AllocError>
+pub(crate) fn bytes_text(alloc: Global, bytes: &[u8]) -> Result<String, AllocError>
     ensures { IfOk result (λ text. string_bytes text ≡ bytes_text bytes.now) }
 {
     if bytes.is_empty() {
@@ -85,6 +189,15 @@ fn event_text(alloc: Global, device: u16, event: &WorldEvent) -> Result<String, 
         WorldEvent::Deliver(direction, place) => {
             let direction = direction_text(*direction);
             format!(in alloc; "deliver {device} {direction} {place}")
+        }
+        WorldEvent::Publish(_) => String::from_str(alloc, "publish"),
+        WorldEvent::Offer(role, number) => {
+            let role = role_text(*role);
+            format!(in alloc; "offer {device} {role} {number}")
+        }
+        WorldEvent::Allow(role, number) => {
+            let role = role_text(*role);
+            format!(in alloc; "allow {device} {role} {number}")
         }
     }
 }
@@ -133,20 +246,32 @@ fn up_text(alloc: Global, up: &Option<HandUp>) -> Result<String, AllocError>
     }
 }
 
+/// What a frame that was delivered meant.
+#[tactic(auto, unfolding(crate::specs::Lines::said_text))]
+fn taken_text(alloc: Global, taken: &Taken) -> Result<String, AllocError>
+    ensures { IfOk result (λ text. string_bytes text ≡ said_text (Line.Deliver taken.now)) }
+{
+    let note = note_text(alloc, taken.note)?;
+    let up = up_text(alloc, &taken.up)?;
+    format!(in alloc; "{note}{up}")
+}
+
 /// The outcome of an event.
-#[tactic(auto, unfolding(crate::specs::Lines::outcome_text))]
-fn outcome_text(alloc: Global, line: &Line) -> Result<String, AllocError>
-    ensures { IfOk result (λ text. string_bytes text ≡ outcome_text (Ok line.now)) }
+#[tactic(auto, unfolding(crate::specs::Lines::said_text))]
+fn said_text(alloc: Global, line: &Line) -> Result<String, AllocError>
+    ensures { IfOk result (λ text. string_bytes text ≡ said_text line.now) }
 {
     match line {
         Line::Hand(accepted) => accepted_text(alloc, *accepted),
         Line::HandRefused(fault) => String::from_str(alloc, refusal_text(*fault)),
         Line::Slot(emission) => slot_text(alloc, emission),
-        Line::Deliver(taken) => {
-            let note = note_text(taken.note);
-            let up = up_text(alloc, &taken.up)?;
-            format!(in alloc; "{note}{up}")
-        }
+        Line::Deliver(taken) => taken_text(alloc, taken),
+        Line::Published(number) => format!(in alloc; "ok {number}"),
+        Line::Refused(finding) => finding_text(alloc, *finding),
+        Line::Offer(answer) => offered_text(alloc, *answer),
+        Line::Allow(allowed) => String::from_str(alloc, allowed_text(*allowed)),
+        Line::NoFrame => String::from_str(alloc, "refused no-frame"),
+        Line::NoEdition => String::from_str(alloc, "refused no-edition"),
     }
 }
 
@@ -161,25 +286,9 @@ pub(crate) fn line_text(
     event: &ScriptEvent,
     line: &Line,
 ) -> Result<String, AllocError>
-    ensures { IfOk result (λ text. string_bytes text ≡ line_text place event.now (Ok line.now)) }
+    ensures { IfOk result (λ text. string_bytes text ≡ line_text place event.now line.now) }
 {
     let words = event_text(alloc, event.device, &event.event)?;
-    let outcome = outcome_text(alloc, line)?;
+    let outcome = said_text(alloc, line)?;
     format!(in alloc; "{place} {words} {outcome}\n")
-}
-
-/// The printed line of an event that names a frame which was never sent.
-///
-/// # Errors
-/// Want of memory.
-#[tactic(auto, unfolding(crate::specs::Lines::line_text, crate::specs::Lines::outcome_text))]
-pub(crate) fn no_frame_line(
-    alloc: Global,
-    place: u64,
-    event: &ScriptEvent,
-) -> Result<String, AllocError>
-    ensures { IfOk result (λ text. (fault : StepFault) → string_bytes text ≡ line_text place event.now (Err fault)) }
-{
-    let words = event_text(alloc, event.device, &event.event)?;
-    format!(in alloc; "{place} {words} refused no-frame\n")
 }

@@ -1,15 +1,16 @@
 //! The run of a script, as it is printed.
 
 ghost use Rattle.std.specs.Prelude.{◌≡◌, IfOk, OnOk, string_bytes};
-ghost use Rattle.gw_top.specs.Lines.{line_text, lines_from, printed};
+ghost use Rattle.gw_top.specs.Lines.{line_of, line_text, lines_from, printed};
 ghost use Rattle.two_ends.specs.World.{step, beginning};
 ghost use Rattle.two_ends.specs.Fits.{IsMtu};
 
-use crate::lines::{line_text, no_frame_line};
+use crate::lines::line_text;
 use crate::script::{Script, ScriptEvent};
+use event_data::{Line, StepFault};
 use schc_ids::EndParams;
 use std::alloc::{AllocError, Global};
-use two_ends::{StepFault, World};
+use two_ends::World;
 
 /// What is printed for a script: a line for each event of its run.
 ///
@@ -18,10 +19,7 @@ use two_ends::{StepFault, World};
 pub(crate) fn simulate(alloc: Global, script: &Script) -> Result<Vec<u8>, AllocError>
     ensures { IfOk result (λ text. text.items ≡ printed script.now) }
 {
-    match script.device {
-        Some(device) => lines(alloc, device.params, script.events.as_slice()),
-        None => Ok(Vec::new(alloc)),
-    }
+    lines(alloc, script.params(), script.events.as_slice())
 }
 
 /// The lines of a run of these events from the beginning.
@@ -38,6 +36,20 @@ fn lines(alloc: Global, params: EndParams, events: &[ScriptEvent]) -> Result<Vec
     Ok(text)
 }
 
+/// The event's outcome as a line: two faults have one, a frame that was never sent and an edition that
+/// the chain lacks.
+fn outcome(world: &mut World, event: &ScriptEvent) -> Result<Line, AllocError>
+    ensures line { IfOk result (λ line. line ≡ line_of (step world.old event.now.event).1) }
+    ensures world { OnOk result (world.new ≡ (step world.old event.now.event).0) }
+{
+    match world.step(&event.event) {
+        Ok(line) => Ok(line),
+        Err(StepFault::NoSuchFrame(_)) => Ok(Line::NoFrame),
+        Err(StepFault::NoSuchEdition(_)) => Ok(Line::NoEdition),
+        Err(StepFault::Memory) => Err(AllocError),
+    }
+}
+
 /// Lets the event happen, and gives its printed line.
 fn line(
     alloc: Global,
@@ -45,12 +57,9 @@ fn line(
     world: &mut World,
     event: &ScriptEvent,
 ) -> Result<String, AllocError>
-    ensures text { IfOk result (λ text. string_bytes text ≡ line_text place event.now (step world.old event.now.event).1) }
+    ensures text { IfOk result (λ text. string_bytes text ≡ line_text place event.now (line_of (step world.old event.now.event).1)) }
     ensures world { OnOk result (world.new ≡ (step world.old event.now.event).0) }
 {
-    match world.step(&event.event) {
-        Ok(line) => line_text(alloc, place, event, &line),
-        Err(StepFault::NoSuchFrame(_)) => no_frame_line(alloc, place, event),
-        Err(StepFault::Memory) => Err(AllocError),
-    }
+    let said = outcome(world, event)?;
+    line_text(alloc, place, event, &said)
 }

@@ -1,3 +1,7 @@
+//! How a run of the program ends.
+
+use rule_model::Finding;
+
 /// What was counted past its limit.
 #[derive(Clone, Copy, Debug, PartialEq, Eq)]
 pub enum Counted {
@@ -10,6 +14,8 @@ pub enum Counted {
 pub enum Status {
     /// The input was read to its end, and all output was written.
     Ok,
+    /// An edition of the input has this finding, the first one.
+    Refused(Finding),
     /// The words are outside the grammar; the number is the place of the first bad word, from 1, or one past the
     /// last word where one lacks.
     Usage(u32),

@@ -28,6 +28,14 @@ const OTHERS: &[u8] =
 const OTHERS_LINES: &[u8] =
     b"1 slot 7 gw none\n2 hand 7 gw ok edition 0 rule 22 bits 328\n3 slot 7 gw frame 1 port 22 6000000000003b40fe800000000000000000000000000001fe800000000000000000000000000002 whole\n4 deliver 7 down 1 small up 22 6000000000003b40fe800000000000000000000000000001fe800000000000000000000000000002\n5 hand 7 dev refused not-ipv6\n6 hand 7 dev refused too-long\n7 deliver 7 up 1 refused no-frame\n8 deliver 7 down 18446744073709551615 refused no-frame\n";
 
+/// Editions that the chain lacks or that are no later ones, a frame that is too short for the MTU, and an edition that is
+/// published before the device is declared.
+const OFFERS: &[u8] =
+    b"publish {\"number\":1,\"rules\":[]}\ndevice 7 0000000000000001 0000000000000002 mtu 15\noffer 7 dev 0\nallow 7 dev 1\noffer 7 dev 2\noffer 7 gw 1\nallow 7 gw 1\npublish {\"number\":3,\"rules\":[]}\nhand 7 dev 6000000000003b40fe800000000000000000000000000001fe800000000000000000000000000002\n";
+
+const OFFERS_LINES: &[u8] =
+    b"1 publish ok 1\n2 offer 7 dev 0 older\n3 allow 7 dev 1 no\n4 offer 7 dev 2 refused no-edition\n5 offer 7 gw 1 adopted\n6 allow 7 gw 1 yes\n7 publish refused 14 number-not-next rule 0 entry 0\n8 hand 7 dev refused too-long\n";
+
 fn sim(rt: &HostRuntime) -> Result<Vec<String>, Fail> {
     let mut words = Vec::new(rt.alloc());
     words.push(String::from_str(rt.alloc(), "sim")?)?;
@@ -37,13 +45,26 @@ fn sim(rt: &HostRuntime) -> Result<Vec<String>, Fail> {
 #[test]
 fn runs_of_scripts(rt: HostRuntime) -> Result<(), Fail> {
     let words = sim(&rt)?;
-    let cases: [(&[u8], Status, &[u8]); 12] = [
+    let cases: [(&[u8], Status, &[u8]); 17] = [
         (b"", Status::Ok, b""),
         (DEVICE, Status::Ok, b""),
         (ONE_PACKET, Status::Ok, ONE_PACKET_LINES),
         (NINE, Status::Ok, NINE_LINES),
         (OTHERS, Status::Ok, OTHERS_LINES),
-        (b"\n", Status::BadInput(0), b""),
+        (b"\n# a comment\n", Status::Ok, b""),
+        (OFFERS, Status::Ok, OFFERS_LINES),
+        (b" # no comment\n", Status::BadInput(0), b""),
+        (b"publish {}\n", Status::BadInput(0), b""),
+        (
+            b"device 7 0000000000000001 0000000000000002 mtu 14\n",
+            Status::BadInput(0),
+            b"",
+        ),
+        (
+            b"device 7 0000000000000001 0000000000000002\ndevice 8 0000000000000001 0000000000000002\n",
+            Status::BadInput(0),
+            b"",
+        ),
         (b"slot 7 dev\n", Status::BadInput(0), b""),
         (
             b"device 07 0000000000000001 0000000000000002\n",
@@ -154,7 +175,7 @@ fn words_and_the_limit(rt: HostRuntime) -> Result<(), Fail> {
     words.push(String::from_str(rt.alloc(), "x")?)?;
     assert_eq!(rt;
         run(rt.alloc(), words.as_slice(), &mut source, &mut sink),
-        Status::Usage(1)
+        Status::Usage(2)
     );
     assert_eq!(rt; sink.as_slice(), b"".as_slice());
     Ok(())

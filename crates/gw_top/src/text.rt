@@ -1,10 +1,10 @@
 //! Lines and words of a script, and the numbers and bytes that are spelled in them.
 
-ghost use Rattle.std.specs.Prelude.{◌≡◌, ◌<◌, ◌^◌, ◌∷◌, length, map, IfOk, IfSome};
+ghost use Rattle.std.specs.Prelude.{◌≡◌, ◌<◌, ◌≤◌, ◌^◌, ◌∷◌, length, map, IfOk, IfSome};
 ghost use Rattle.std.specs.List.{list_all, position};
 ghost use Rattle.std.specs.Char.{is_ascii_digit};
 ghost use Rattle.std.specs.Option.{option_map};
-ghost use Rattle.gw_top.specs.Text.{is_line_feed, lines_of, words_of, is_numeral, number_of, bytes_of, iid_of};
+ghost use Rattle.gw_top.specs.Text.{is_line_feed, lines_of, words_of, is_numeral, number_of, packet_in, iid_of};
 
 use hex::{FromHex, FromHexError};
 use std::alloc::{AllocError, Global};
@@ -81,13 +81,31 @@ pub(crate) fn small_number(word: &[u8]) -> Option<u16>
     u16::try_from(number(word)?).ok()
 }
 
+/// The number below 2^32 that a word spells.
+#[tactic(auto, unfolding(crate::specs::Text::number_of))]
+pub(crate) fn edition_number(word: &[u8]) -> Option<u32>
+    ensures { result ≡ number_of (2 ^ 32) word.now }
+{
+    u32::try_from(number(word)?).ok()
+}
+
+/// The number up to 242 that a word spells.
+#[tactic(auto, unfolding(crate::specs::Text::number_of))]
+pub(crate) fn mtu_number(word: &[u8]) -> Option<u16>
+    ensures number { result ≡ number_of 243 word.now }
+    ensures small { IfSome result (λ mtu. mtu ≤ 242) }
+{
+    let mtu = small_number(word)?;
+    if mtu <= 242 { Some(mtu) } else { None }
+}
+
 /// The bytes that a word spells: two hex digits for each, in either case, and at least one byte.
 ///
 /// # Errors
 /// Want of memory.
-#[tactic(auto, unfolding(crate::specs::Text::bytes_of))]
-pub(crate) fn bytes(alloc: Global, word: &[u8]) -> Result<Option<Vec<u8>>, AllocError>
-    ensures { IfOk result (λ bytes. option_map (λ b. b.items) bytes ≡ bytes_of word.now) }
+#[tactic(auto, unfolding(crate::specs::Text::packet_in))]
+pub(crate) fn packet(alloc: Global, word: &[u8]) -> Result<Option<Vec<u8>>, AllocError>
+    ensures { IfOk result (λ bytes. option_map (λ b. b.items) bytes ≡ packet_in word.now) }
 {
     match hex::decode(alloc, word) {
         Ok(bytes) => {

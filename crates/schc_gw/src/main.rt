@@ -9,7 +9,10 @@ use std::process::ExitCode;
 
 const HELP: &str = "schc_gw: a gateway and a device end for SCHC (RFC 8724)
 
-  schc_gw sim        reads a script on standard input, prints a line for each of its events
+  schc_gw check      reads a context, prints for each of its editions of rules whether it can be published
+  schc_gw pack       reads a work file, prints each of its packets as an SCHC packet
+  schc_gw unpack     reads a work file, prints the packet that each of its SCHC packets is read as
+  schc_gw sim        reads a script, prints a line for each of its events
   schc_gw --help     prints this text
   schc_gw --version  prints the program's name and version
 ";
@@ -50,6 +53,7 @@ fn show(rt: &HostRuntime, text: &str) -> Status {
 fn report(rt: &HostRuntime, status: Status) -> u8 {
     let (code, said) = match status {
         Status::Ok => (0, Ok(())),
+        Status::Refused(_) => (1, eprintln!(rt; "schc_gw: edition refused")),
         Status::Usage(place) => (2, eprintln!(rt; "schc_gw: bad word {place}")),
         Status::BadInput(line) => (3, eprintln!(rt; "schc_gw: bad input {line}")),
         Status::ReadFault => (4, eprintln!(rt; "schc_gw: read failed")),
