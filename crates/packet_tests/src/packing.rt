@@ -4,9 +4,10 @@ ghost use Rattle.std.specs.Prelude.{◌≡◌};
 ghost use Rattle.packer.specs.Packets.{is_ipv6};
 
 use crate::drafts::{Given, Kind, edition_of};
+use editions::Edition;
 use packer::{Packed, pack};
-use schc_ids::{DirInd, Direction, Iids};
-use std::alloc::Global;
+use schc_ids::{DirInd, Direction, FieldName, Iids};
+use std::alloc::{AllocError, Global};
 use std::test::Fail;
 
 const IIDS: Iids = Iids { dev: 1, app: 2 };
@@ -104,6 +105,41 @@ fn a_rule_that_matches(rt: HostRuntime) -> Result<(), Fail> {
         b"1660000000000a114020010db800000000000000000000000120010db8000000010000000000000002f0b1f0b3000af7fecafe";
     assert!(rt; writes(rt.alloc(), &[range], SENSOR, 5, 28, b"053cafe0"));
     assert!(rt; writes(rt.alloc(), &[range], WRONG_CHECKSUM, 22, 408, whole));
+    Ok(())
+}
+
+/// Whether the listed rule drops these fields on the way up.
+fn drops(edition: &Edition, id: u16, names: &[FieldName]) -> bool {
+    let Some(listed) = edition.lookup(id) else {
+        return false;
+    };
+    let fields = listed.rule.dropped(Direction::Up);
+    fields.len() == names.len()
+        && fields
+            .iter()
+            .all(|field| names.iter().any(|name| field.name.same(*name)))
+}
+
+#[test]
+fn what_rules_drop(rt: HostRuntime) -> Result<(), Fail> {
+    let alloc = rt.alloc();
+    let rules = [
+        live(5, Kind::PortRange),
+        live(6, Kind::AnyFlow),
+        live(7, Kind::AnyPrefix),
+    ];
+    let Ok(edition) = edition_of(alloc, &rules) else {
+        return Err(Fail::from(AllocError));
+    };
+    assert!(rt; drops(&edition, 5, &[]));
+    assert!(rt; drops(&edition, 6, &[FieldName::IpFlowLabel]));
+    assert!(rt;
+        drops(
+            &edition,
+            7,
+            &[FieldName::IpAppPrefix, FieldName::UdpChecksum]
+        )
+    );
     Ok(())
 }
 
