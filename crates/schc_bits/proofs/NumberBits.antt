@@ -1,9 +1,9 @@
 -- Numbers written in bits.
 use Rattle.std.specs.Prelude.{ℕ, ◌≡◌, ◌+◌, ◌-◌, ◌*◌, ◌/◌, ◌%◌, ◌^◌, ◌==◌, ◌<◌, ◌≤◌, zero, suc, Bool, true, false, if◌then◌else◌, List, [], ◌∷◌, ◌++◌, length, get_or, take, drop, replicate}
-use Rattle.std.proofs.Common.{arith, ap, refl, sym, ◌∙◌, subst}
-use Rattle.std.proofs.lemmas.List.{append_assoc, append-nil, length-append, length-take-le, take_more, take_at, drop_at}
+use Rattle.std.proofs.Common.{arith, ap, refl, sym, ◌∙◌}
+use Rattle.std.proofs.lemmas.List.{append-nil, length-append, take_more, take_at, drop_at}
 use Rattle.std.proofs.lemmas.Nat.{pow-add, shr-shr, mod-pow-add, field_of, div-mul-add, mod-mul-add}
-use Rattle.std.proofs.Math.Nat.{pow-suc, pow-le-pow_right, zero-div, mod-eq_of_lt}
+use Rattle.std.proofs.Math.Nat.{pow-suc, zero-div, mod-eq_of_lt}
 use mir.Val.{bool_byte}
 use Rattle.schc_bits.specs.Bits.{number_bits, bits_value, octets}
 
@@ -12,10 +12,6 @@ pub number_bits-more : (count number : ℕ) → 0 < count → number_bits count 
 unfolding number_bits
 number_bits-more zero number h = absurd (omega arith)
 number_bits-more (suc count) number h = rw (let e : suc count - 1 ≡ count = omega arith in e)
-
--- one bit on, after what stands already
-pub number_bits-next : (old : List Bool) (count number : ℕ) → 0 < count → (old ++ (number / 2 ^ (count - 1) % 2 == 1) ∷ []) ++ number_bits (count - 1) number ≡ old ++ number_bits count number
-number_bits-next old count number h = rw (number_bits-more count number h) (append_assoc old _ _)
 
 -- no bit is left
 pub number_bits-done : (now old : List Bool) (left count number : ℕ) → left ≤ 0 → now ++ number_bits left number ≡ old ++ number_bits count number → now ≡ old ++ number_bits count number
@@ -129,14 +125,6 @@ unfolding number_bits
 number_bits-zero zero = refl
 number_bits-zero (suc count) = rw (zero-div (2 ^ count), number_bits-zero count)
 
--- a number of fewer than 64 bits has room for one bit more
-pub bits_value-room : (bits : List Bool) (i number : ℕ) → i < length bits → length bits ≤ 64 → number ≡ bits_value (take i bits) → number * 2 + 1 < 2 ^ 64
-bits_value-room bits i number h most e =
-    let width : length (take i bits) ≡ i = length-take-le i bits (omega arith) in
-    let below : bits_value (take i bits) < 2 ^ i = subst (λ w. bits_value (take i bits) < 2 ^ w) width (bits_value-below (take i bits)) in
-    let top : 2 ^ i ≤ 2 ^ 63 = pow-le-pow_right (omega arith) (let l : i ≤ 63 = omega arith in l) in
-    omega arith
-
 pub bool_byte-below : (bit : Bool) → bool_byte bit ≤ 1
 bool_byte-below true = omega arith
 bool_byte-below false = omega arith
@@ -166,3 +154,9 @@ drop-number_bits high low number =
 pub number_bits-two_bytes : (number : ℕ) → number_bits 16 number ≡ octets (number / 256 ∷ number % 256 ∷ [])
 number_bits-two_bytes number =
     rw (number_bits-append 8 8 number, append-nil (number_bits 8 (number % 256)), number_bits-mod 8 number)
+
+-- one bit
+pub number_bits-bit : (bit : Bool) → number_bits 1 (bool_byte bit) ≡ bit ∷ []
+unfolding number_bits
+number_bits-bit true = refl
+number_bits-bit false = refl

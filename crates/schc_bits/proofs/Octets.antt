@@ -3,16 +3,25 @@ use Rattle.std.specs.Prelude.{ℕ, ◌≡◌, ◌+◌, ◌-◌, ◌*◌, ◌/◌
 use Rattle.std.proofs.Common.{arith, ap, refl, sym, subst, ◌∙◌, inl, inr}
 use Rattle.std.proofs.lemmas.Bool.{cases_lt}
 use Rattle.std.proofs.lemmas.List.{append_assoc, append-nil, length-append, length-take, length-take-le, length-drop, length-replicate, take_all, take_at, drop_at, drop_all, take-append-drop, take_min, drop_min}
-use Rattle.std.proofs.lemmas.Nat.{shl_below}
 use Rattle.std.proofs.Math.Nat.{pow-le-pow_right}
 use Rattle.std.proofs.Math.Seq.{take-add, take-append-add, drop-append-add}
 use Rattle.schc_bits.specs.Bits.{number_bits, bits_value, octets, padded, first_bytes, bytes_of, AreBytes}
+use Rattle.schc_bits.proofs.ListLemmas.{all-append, all-take, all-drop}
 use Rattle.schc_bits.proofs.NumberBits.{length-number_bits, bits_value-number_bits, bits_value-below, number_bits-bits_value, bits_value-append, bits_value-replicate_false}
 
 -- where each place holds a byte
 pub AreBytes-from_each : (bytes : List ℕ) → ((k : ℕ) → get_or bytes k 0 < 256) → AreBytes bytes
 AreBytes-from_each [] h = tt
 AreBytes-from_each (byte ∷ bytes) h = (h 0, AreBytes-from_each bytes (λ k. h (suc k)))
+
+pub AreBytes-append : (front back : List ℕ) → AreBytes front → AreBytes back → AreBytes (front ++ back)
+AreBytes-append front back first second = all-append (λ byte. byte < 256) front back first second
+
+pub AreBytes-take : (count : ℕ) (bytes : List ℕ) → AreBytes bytes → AreBytes (take count bytes)
+AreBytes-take count bytes h = all-take (λ byte. byte < 256) count bytes h
+
+pub AreBytes-drop : (count : ℕ) (bytes : List ℕ) → AreBytes bytes → AreBytes (drop count bytes)
+AreBytes-drop count bytes h = all-drop (λ byte. byte < 256) count bytes h
 
 pub length-octets : (bytes : List ℕ) → length (octets bytes) ≡ 8 * length bytes
 length-octets [] = refl
@@ -190,12 +199,6 @@ bytes_of-padded-next old rest first later count byte h c f l b =
     let front : first ≡ take 8 rest = f ∙ ap (λ n. take n rest) turned ∙ take_min 8 rest in
     let back : later ≡ drop 8 rest = l ∙ ap (λ n. drop n rest) turned ∙ drop_min 8 rest in
     rw (append_assoc old (byte ∷ []) (bytes_of (padded later)), b, front, back, bytes_of-padded-more rest h)
-
--- at most eight bits, moved up in their byte
-pub begun_byte-fits : (bits : List Bool) (number : ℕ) → length bits ≤ 8 → number ≡ bits_value bits → number * 2 ^ (8 - length bits) < 2 ^ 8
-begun_byte-fits bits number h e =
-    let e8 : length bits + (8 - length bits) ≡ 8 = omega arith in
-    rw e (subst (λ w. bits_value bits * 2 ^ (8 - length bits) < 2 ^ w) e8 (shl_below (bits_value bits) (length bits) (8 - length bits) (bits_value-below bits)))
 
 -- no bit is left
 pub bytes_of-padded-none : (old : List ℕ) (rest bits : List Bool) → length rest ≡ 0 → old ++ bytes_of (padded rest) ≡ bytes_of (padded bits) → old ≡ bytes_of (padded bits)

@@ -70,27 +70,8 @@ number_at-takes count bits number rest e =
           (rw (← value, ← left, written) (sym (take-append-drop count bits)), rw (← value) below)
     ]
 
--- the number of the bits that are taken
-pub number_at-bits_at : (count : ℕ) (bits taken rest : List Bool) (number : ℕ) → bits_at count bits ≡ Some (taken, rest) → number ≡ bits_value taken → number_at count bits ≡ Some (number, rest)
-number_at-bits_at count bits taken rest number e v =
-    let parts : (bits ≡ taken ++ rest) × (length taken ≡ count) = bits_at-takes count bits taken rest e in
-    let enough : count ≤ length bits = rw (parts.0, length-append taken rest) (omega arith) in
-    rw (number_at-enough count bits enough, parts.0, take_at taken rest count parts.1, drop_at taken rest count parts.1, v)
-
-pub number_at-none : (count : ℕ) (bits : List Bool) → bits_at count bits ≡ None → number_at count bits ≡ None
-number_at-none count bits e =
-    elim (cases_lt (length bits) count) [
-      | inl short ↦ number_at-short count bits short
-      | inr enough ↦
-          let some : bits_at count bits ≡ Some (take count bits, drop count bits) = bits_at-enough count bits enough in
-          absurd (cc)
-    ]
-
 pub bits_at-width : (count : ℕ) (bits taken rest : List Bool) → bits_at count bits ≡ Some (taken, rest) → length taken ≡ count
 bits_at-width count bits taken rest e = (bits_at-takes count bits taken rest e).1
-
-pub bits_value-taken : (count : ℕ) (bits taken rest : List Bool) → bits_at count bits ≡ Some (taken, rest) → bits_value taken < 2 ^ count
-bits_value-taken count bits taken rest e = subst (λ w. bits_value taken < 2 ^ w) (bits_at-width count bits taken rest e) (bits_value-below taken)
 
 -- bits that come later change nothing
 pub bits_at-append : (count : ℕ) (bits taken rest more : List Bool) → bits_at count bits ≡ Some (taken, rest) → bits_at count (bits ++ more) ≡ Some (taken, rest ++ more)

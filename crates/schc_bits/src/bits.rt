@@ -3,8 +3,9 @@
 ghost use Rattle.std.specs.Prelude.{ℕ, ◌≡◌, ◌+◌, ◌-◌, ◌^◌, ◌<◌, ◌≤◌, ◌↔◌, Bool, false, [], ◌∷◌, ◌++◌, length, take, drop, IsTrue, OnOk, OnErr, IfOk, slice_index_or};
 ghost use Rattle.schc_bits.specs.Bits.{number_bits, octets, padded, bytes_of};
 
-use crate::bytes::padded_bytes;
-use crate::list::{CopyItem, ItemList, Octets, Same, same_items};
+use crate::list::{CopyItem, Octets, Same};
+use crate::part::Part;
+use crate::words::{cut, put_bits};
 use std::alloc::{AllocError, Global};
 use std::marker::Model;
 
@@ -13,15 +14,19 @@ use std::marker::Model;
 #[derive(Drop)]
 pub struct Bits {
     alloc: Global,
-    list: ItemList<bool>,
+    words: Vec<u64>,
+    count: usize,
 }
 
 impl Model for Bits {
-    ghost use Rattle.std.specs.Prelude.{Bool, List};
+    ghost use Rattle.std.specs.Prelude.{Bool, List, take};
+    ghost use Rattle.schc_bits.specs.Words.{words_bits, IsFilled};
 
     ghost Value = { List Bool };
 
-    ghost view = { λ b. b.list.items };
+    ghost view = { λ b. take b.count (words_bits b.words.items) };
+
+    ghost invariant = { λ b. IsFilled b.words.items b.count };
 }
 
 impl Bits {
@@ -31,7 +36,8 @@ impl Bits {
     {
         Bits {
             alloc,
-            list: ItemList::new(alloc),
+            words: Vec::new(alloc),
+            count: 0,
         }
     }
 
@@ -43,10 +49,8 @@ impl Bits {
         ensures { IfOk result (λ bits. bits ≡ octets bytes.now) }
     {
         let mut bits = Bits::new(alloc);
-        bits.list.reserve(bytes.len().saturating_mul(8))?;
-        for byte in bytes {
-            bits.push_bits(u64::from(*byte), 8)?;
-        }
+        bits.reserve(bytes.len().saturating_mul(8))?;
+        bits.push_bytes(bytes)?;
         Ok(bits)
     }
 
@@ -64,30 +68,18 @@ impl Bits {
         Ok(bits)
     }
 
-    /// A list with these bits.
-    ///
-    /// # Errors
-    /// Want of memory.
-    pub fn from_slice(alloc: Global, bits: &[bool]) -> Result<Self, AllocError>
-        ensures { IfOk result (λ list. list ≡ bits.now) }
-    {
-        let mut list = Bits::new(alloc);
-        list.list.extend_from(bits)?;
-        Ok(list)
-    }
-
     /// The number of bits.
     pub fn len(&self) -> usize
         ensures { result ≡ length self.now }
     {
-        self.list.len()
+        self.count
     }
 
     /// True exactly where there is no bit.
     pub fn is_empty(&self) -> bool
         ensures { IsTrue result ↔ (self.now ≡ []) }
     {
-        self.list.is_empty()
+        self.len() == 0
     }
 
     /// The bit at the index `i`, from 0.
@@ -95,14 +87,32 @@ impl Bits {
         requires { i < length self.now }
         ensures { (default : Bool) → result ≡ slice_index_or self.now i default }
     {
-        *self.list.at(i)
+        self.as_part().bit(i)
     }
 
-    /// The bits.
-    pub fn as_slice(&self) -> &[bool]
-        ensures { result.now ≡ self.now }
+    /// The bits, looked at where they stand.
+    pub fn as_part(&self) -> Part<'_>
+        ensures { result ≡ self.now }
     {
-        self.list.as_slice()
+        Part::of_words(self.words.as_slice(), self.count)
+    }
+
+    /// Puts all bits of `more` last.
+    ///
+    /// # Errors
+    /// Want of memory; the bits are then as before.
+    pub fn extend_from_part(&mut self, more: &Part<'_>) -> Result<(), AllocError>
+        ensures ok { OnOk result (self.new ≡ self.old ++ more.now) }
+        ensures err { OnErr result (self.new ≡ self.old) }
+    {
+        let before = self.len();
+        match self.put_part(more) {
+            Ok(()) => Ok(()),
+            Err(error) => {
+                self.truncate(before);
+                Err(error)
+            }
+        }
     }
 
     /// Puts one bit last.
@@ -113,7 +123,7 @@ impl Bits {
         ensures ok { OnOk result (self.new ≡ self.old ++ bit ∷ []) }
         ensures err { OnErr result (self.new ≡ self.old) }
     {
-        self.list.push(bit)
+        self.push_bits(u64::from(bit), 1)
     }
 
     /// Puts the number last in `count` bits, the highest first.
@@ -126,12 +136,11 @@ impl Bits {
         ensures ok { OnOk result (self.new ≡ self.old ++ number_bits count value) }
         ensures err { OnErr result (self.new ≡ self.old) }
     {
-        self.list.reserve(count as usize)?;
-        let mut left = count;
-        while left > 0 {
-            left -= 1;
-            self.list.put((value >> left) % 2 == 1);
-        }
+        let Some(after) = self.count.checked_add(count as usize) else {
+            return Err(AllocError);
+        };
+        put_bits(&mut self.words, self.count, value, count)?;
+        self.count = after;
         Ok(())
     }
 
@@ -143,18 +152,7 @@ impl Bits {
         ensures ok { OnOk result (self.new ≡ self.old ++ other.now) }
         ensures err { OnErr result (self.new ≡ self.old) }
     {
-        self.list.extend_from(other.as_slice())
-    }
-
-    /// Puts all bits of `more` last.
-    ///
-    /// # Errors
-    /// Want of memory; the bits are then as before.
-    pub fn extend_from_slice(&mut self, more: &[bool]) -> Result<(), AllocError>
-        ensures ok { OnOk result (self.new ≡ self.old ++ more.now) }
-        ensures err { OnErr result (self.new ≡ self.old) }
-    {
-        self.list.extend_from(more)
+        self.extend_from_part(&other.as_part())
     }
 
     /// Puts eight bits for each byte last, the highest first.
@@ -165,8 +163,14 @@ impl Bits {
         ensures ok { OnOk result (self.new ≡ self.old ++ octets bytes.now) }
         ensures err { OnErr result (self.new ≡ self.old) }
     {
-        let more = Bits::from_bytes(self.alloc, bytes)?;
-        self.extend(&more)
+        let before = self.len();
+        match self.put_octets(bytes) {
+            Ok(()) => Ok(()),
+            Err(error) => {
+                self.truncate(before);
+                Err(error)
+            }
+        }
     }
 
     /// An equal list.
@@ -188,14 +192,20 @@ impl Bits {
         requires within { to ≤ length self.now }
         ensures { IfOk result (λ bits. bits ≡ take (to - from) (drop from self.now)) }
     {
-        Bits::from_slice(self.alloc, &self.as_slice()[from..to])
+        self.as_part()
+            .after(from)
+            .front(to - from)
+            .to_bits(self.alloc)
     }
 
     /// Leaves the first `count` bits, or all where there are fewer. It takes no memory.
     pub fn truncate(&mut self, count: usize)
         ensures { self.new ≡ take count self.old }
     {
-        self.list.truncate(count);
+        if count < self.count {
+            cut(&mut self.words, count);
+            self.count = count;
+        }
     }
 
     /// The bits as bytes, with the fewest zero bits after them that make whole bytes (RFC 8724,
@@ -206,20 +216,79 @@ impl Bits {
     pub fn to_padded_bytes(&self) -> Result<Octets, AllocError>
         ensures { IfOk result (λ bytes. bytes.items ≡ bytes_of (padded self.now)) }
     {
-        padded_bytes(self.alloc, self.as_slice())
+        self.as_part().to_padded_bytes(self.alloc)
     }
 
     /// True exactly where the two have the same bits in the same order.
     pub fn same(&self, other: &Bits) -> bool
         ensures { IsTrue result ↔ (self.now ≡ other.now) }
     {
-        same_items(self.as_slice(), other.as_slice())
+        self.as_part().same(&other.as_part())
+    }
+}
+
+impl Bits {
+    /// Makes room for `count` bits more, and leaves the bits as they are.
+    ///
+    /// # Errors
+    /// Want of memory.
+    pub(crate) fn reserve(&mut self, count: usize) -> Result<(), AllocError>
+        ensures { self.new ≡ self.old }
+    {
+        self.words.reserve(count.div_ceil(64))
+    }
+
+    /// Puts all bits of `more` last, 64 at a time. Where memory wants, some of them are there.
+    fn put_part(&mut self, more: &Part<'_>) -> Result<(), AllocError>
+        ensures ok { OnOk result (self.new ≡ self.old ++ more.now) }
+        ensures err { OnErr result (take (length self.old) self.new ≡ self.old) }
+    {
+        let mut at = 0;
+        while at < more.len() {
+            let step = more.step_at(at);
+            self.push_bits(more.read_at(at, step), step as u32)?;
+            at += step;
+        }
+        Ok(())
+    }
+
+    /// Puts eight bits for each byte last. Where memory wants, some of them are there.
+    fn put_octets(&mut self, bytes: &[u8]) -> Result<(), AllocError>
+        ensures ok { OnOk result (self.new ≡ self.old ++ octets bytes.now) }
+        ensures err { OnErr result (take (length self.old) self.new ≡ self.old) }
+    {
+        let rest = self.put_eights(bytes)?;
+        self.put_single(rest)
+    }
+
+    /// Puts the bits of eight bytes at a time, and gives the bytes that are left.
+    fn put_eights<'b>(&mut self, bytes: &'b [u8]) -> Result<&'b [u8], AllocError>
+        ensures ok { IfOk result (λ rest. self.new ++ octets rest.now ≡ self.old ++ octets bytes.now) }
+        ensures front { take (length self.old) self.new ≡ self.old }
+    {
+        let mut rest = bytes;
+        while let Some((first, later)) = rest.split_first_chunk::<8>() {
+            self.push_bits(u64::from_be_bytes(*first), 64)?;
+            rest = later;
+        }
+        Ok(rest)
+    }
+
+    /// Puts the bits of one byte at a time.
+    fn put_single(&mut self, bytes: &[u8]) -> Result<(), AllocError>
+        ensures ok { OnOk result (self.new ≡ self.old ++ octets bytes.now) }
+        ensures err { OnErr result (take (length self.old) self.new ≡ self.old) }
+    {
+        for byte in bytes {
+            self.push_bits(u64::from(*byte), 8)?;
+        }
+        Ok(())
     }
 }
 
 impl CopyItem for Bits {
     fn copy_item(&self, alloc: Global) -> Result<Bits, AllocError> {
-        Bits::from_slice(alloc, self.as_slice())
+        self.as_part().to_bits(alloc)
     }
 }
 

@@ -3,13 +3,14 @@
 #![tactic(auto)]
 
 mod bits;
-mod bytes;
 mod list;
+mod part;
 mod reader;
 #[cfg(test)]
 mod tests;
+mod words;
 
 pub use bits::Bits;
-pub use bytes::{number_of, padded_bytes, whole_bytes};
 pub use list::{CopyItem, ItemList, Octets, Same, same_items};
+pub use part::Part;
 pub use reader::BitReader;

@@ -1,6 +1,6 @@
 //! The one list type of the repository.
 
-ghost use Rattle.std.specs.Prelude.{ℕ, ◌≡◌, ◌+◌, ◌<◌, ◌≤◌, ◌↔◌, [], ◌∷◌, ◌++◌, length, take, IsTrue, OnOk, OnErr, IfOk, slice_index_or};
+ghost use Rattle.std.specs.Prelude.{ℕ, ◌≡◌, ◌+◌, ◌<◌, ◌≤◌, ◌↔◌, [], ◌∷◌, ◌++◌, length, take, drop, slice_set, IsTrue, OnOk, OnErr, IfOk, slice_index_or};
 
 use std::alloc::{AllocError, Global};
 use std::marker::Model;
@@ -123,6 +123,28 @@ impl<T: Drop> ItemList<T> {
     {
         self.list.truncate(count);
     }
+
+    /// Puts the item in the place of the one at the index `i`. It takes no memory.
+    pub fn set(&mut self, i: usize, item: T)
+        requires { i < length self.old.items }
+        ensures items { self.new.items ≡ slice_set self.old.items i item }
+        ensures room { self.new.spare ≡ self.old.spare }
+    {
+        self.list[i] = item;
+    }
+
+    /// Puts the item before the one at the index `i`, or last where `i` is their number.
+    ///
+    /// # Errors
+    /// Want of memory; the items are then as before.
+    pub fn insert(&mut self, i: usize, item: T) -> Result<(), AllocError>
+        requires { i ≤ length self.old.items }
+        ensures ok { OnOk result (self.new.items ≡ take i self.old.items ++ item ∷ drop i self.old.items) }
+        ensures err { OnErr result (self.new.items ≡ self.old.items) }
+    {
+        self.list.insert(i, item)?;
+        Ok(())
+    }
 }
 
 impl<T: Copy + Drop> ItemList<T> {
@@ -188,5 +210,11 @@ impl CopyItem for u8 {
 impl Same for u8 {
     fn same(&self, other: &u8) -> bool {
         *self == *other
+    }
+}
+
+impl CopyItem for usize {
+    fn copy_item(&self, _alloc: Global) -> Result<usize, AllocError> {
+        Ok(*self)
     }
 }

@@ -4,15 +4,14 @@ ghost use Rattle.std.specs.Prelude.{ℕ, ◌≡◌, ◌^◌, ◌<◌, ◌≤◌,
 ghost use Rattle.schc_bits.specs.Bits.{bits_at, number_at};
 
 use crate::bits::Bits;
-use crate::bytes::number_of;
-use crate::list::ItemList;
+use crate::part::Part;
 use std::alloc::{AllocError, Global};
 use std::marker::Model;
 
 /// Reads bits in their order, the first first. Contracts see the list of the bits that are left.
 #[derive(Drop)]
 pub struct BitReader<'a> {
-    rest: &'a [bool],
+    rest: Part<'a>,
 }
 
 impl<'a> Model for BitReader<'a> {
@@ -20,7 +19,7 @@ impl<'a> Model for BitReader<'a> {
 
     ghost Value = { List Bool };
 
-    ghost view = { λ r. r.rest.now };
+    ghost view = { λ r. r.rest };
 }
 
 impl<'a> BitReader<'a> {
@@ -29,7 +28,7 @@ impl<'a> BitReader<'a> {
         ensures { result ≡ bits.now }
     {
         BitReader {
-            rest: bits.as_slice(),
+            rest: bits.as_part(),
         }
     }
 
@@ -39,7 +38,7 @@ impl<'a> BitReader<'a> {
         ensures { result ≡ drop place bits.now }
     {
         BitReader {
-            rest: &bits.as_slice()[place..],
+            rest: bits.as_part().after(place),
         }
     }
 
@@ -51,10 +50,25 @@ impl<'a> BitReader<'a> {
     }
 
     /// The bits that are left.
-    pub fn rest(&self) -> &[bool]
-        ensures { result.now ≡ self.now }
+    pub fn rest_part(&self) -> Part<'a>
+        ensures { result ≡ self.now }
     {
-        self.rest
+        self.rest.after(0)
+    }
+
+    /// Takes the next `count` bits. None where fewer are left; then nothing is taken.
+    pub fn take_part(&mut self, count: usize) -> Option<Part<'a>>
+        ensures some { IfSome result (λ taken. bits_at count self.old ≡ Some (taken, self.new)) }
+        ensures none { IfNone result (bits_at count self.old ≡ None) }
+        ensures kept { IfNone result (self.new ≡ self.old) }
+        ensures short { IsNone result ↔ (length self.old < count) }
+    {
+        if self.rest.len() < count {
+            return None;
+        }
+        let taken = self.rest.front(count);
+        self.rest = self.rest.after(count);
+        Some(taken)
     }
 
     /// Takes the number that the next `count` bits write, the most significant first. None where
@@ -67,25 +81,12 @@ impl<'a> BitReader<'a> {
         ensures kept { IfNone result (self.new ≡ self.old) }
         ensures short { IsNone result ↔ (length self.old < count) }
     {
-        let Some(taken) = self.take_slice(count as usize) else {
-            return None;
-        };
-        Some(number_of(taken))
-    }
-
-    /// Takes the next `count` bits. None where fewer are left; then nothing is taken.
-    pub fn take_slice(&mut self, count: usize) -> Option<&'a [bool]>
-        ensures some { IfSome result (λ taken. bits_at count self.old ≡ Some (taken.now, self.new)) }
-        ensures none { IfNone result (bits_at count self.old ≡ None) }
-        ensures kept { IfNone result (self.new ≡ self.old) }
-        ensures short { IsNone result ↔ (length self.old < count) }
-    {
-        if self.rest.len() < count {
+        if self.rest.len() < count as usize {
             return None;
         }
-        let (taken, left) = self.rest.split_at(count);
-        self.rest = left;
-        Some(taken)
+        let number = self.rest.read_at(0, count as usize);
+        self.rest = self.rest.after(count as usize);
+        Some(number)
     }
 
     /// Takes the next `count` bits into a list of their own. None where fewer are left; then
@@ -103,9 +104,8 @@ impl<'a> BitReader<'a> {
         if self.rest.len() < count {
             return Ok(None);
         }
-        let (front, left) = self.rest.split_at(count);
-        let taken = Bits::from_slice(alloc, front)?;
-        self.rest = left;
+        let taken = self.rest.front(count).to_bits(alloc)?;
+        self.rest = self.rest.after(count);
         Ok(Some(taken))
     }
 }

@@ -1,6 +1,6 @@
 //! What no clause says: that calls succeed, and that bits are those that were written out by hand.
 
-use crate::{BitReader, Bits, ItemList, Octets, same_items, whole_bytes};
+use crate::{BitReader, Bits, ItemList, Octets, Part, same_items};
 use std::alloc::{AllocError, Global};
 
 /// 1010 0101 0011 1100, and then 1011.
@@ -42,9 +42,37 @@ fn is_sliced(bits: &Bits) -> Result<bool, AllocError> {
     is_padded(&middle, &[0x53, 0xC0])
 }
 
+/// Whether the bits from 60 up to 68 of these sixteen bytes are 1111 0000, across a word's end.
+fn is_sliced_across(alloc: Global) -> Result<bool, AllocError> {
+    let half = [0x01, 0x23, 0x45, 0x67, 0x89, 0xAB, 0xCD, 0xEF];
+    let mut bits = Bits::from_bytes(alloc, &half)?;
+    bits.push_bytes(&half)?;
+    let middle = bits.slice(bits.len().min(60), bits.len().min(68))?;
+    is_padded(&middle, &[0xF0])
+}
+
+/// Whether items are put in the place of others, and between them.
+fn is_edited(alloc: Global) -> Result<bool, AllocError> {
+    let mut bytes = six(alloc)?;
+    if bytes.len() < 6 {
+        return Ok(false);
+    }
+    bytes.set(1, 9);
+    bytes.insert(5, 8)?;
+    Ok(bytes.as_slice() == [1, 9, 3, 4, 5, 8, 6].as_slice())
+}
+
+/// Whether a list begins with its first bits, and not with others, and has bits that are set.
+fn is_begun(bits: &Bits) -> bool {
+    let all = bits.as_part();
+    let front = all.front(all.len().min(13));
+    let later = all.after(all.len().min(1));
+    all.begins_with(&front) && !all.begins_with(&later) && !all.is_zero() && Part::none().is_zero()
+}
+
 /// Whether the four bits behind the whole bytes are left out.
 fn is_whole(alloc: Global, bits: &Bits) -> Result<bool, AllocError> {
-    let bytes = whole_bytes(alloc, bits.as_slice())?;
+    let bytes = bits.as_part().to_whole_bytes(alloc)?;
     Ok(bytes.as_slice() == [0xA5, 0x3C].as_slice())
 }
 
@@ -95,5 +123,8 @@ fn bits_by_hand(rt: HostRuntime) -> Result<(), AllocError> {
     assert!(rt; all_read(rt.alloc())?);
     assert!(rt; all_put(rt.alloc())?);
     assert!(rt; is_copied(rt.alloc())?);
+    assert!(rt; is_sliced_across(rt.alloc())?);
+    assert!(rt; is_edited(rt.alloc())?);
+    assert!(rt; is_begun(&sample(rt.alloc())?));
     Ok(())
 }

@@ -1,15 +1,12 @@
 use Rattle.std.proofs.Common.{arith}
-use Rattle.schc_bits.proofs.Reading.{number_at-bits_at, number_at-none, bits_at-width, bits_value-taken}
+use Rattle.schc_bits.proofs.Reading.{number_at-short, number_at-enough}
 use Rattle.schc_bits.proofs.reader.BitReader.read.Goals as goal
 
-pub number_of-requires : goal.number_of-requires
-number_of-requires c = omega (arith, bits_at-width _ _ _ _ c.in-Some.ensures.some)
-
-pub returns-in_default-clause-none : goal.returns-in_default-clause-none
-returns-in_default-clause-none c = number_at-none _ _ c.in_default.ensures.none
+pub returns-then-len-count-clause-none : goal.returns-then-len-count-clause-none
+returns-then-len-count-clause-none c =
+    rw (← c.self.view_is) (number_at-short _ c.self.inside.rest (omega (arith, c.if-len-count.true, c.len.ensures)))
 
 pub returns-clause-some : goal.returns-clause-some
-returns-clause-some c = number_at-bits_at _ _ _ _ _ c.in-Some.ensures.some c.number_of.ensures
-
-pub returns-clause-below : goal.returns-clause-below
-returns-clause-below c = rw c.number_of.ensures (bits_value-taken _ _ _ _ c.in-Some.ensures.some)
+returns-clause-some c =
+    rw (← c.self.view_is, c.read_at-number.ensures.value, c.after-self-inside.ensures)
+    (number_at-enough c.args.count c.self.inside.rest (omega (arith, c.if-len-count.false, c.len.ensures)))
