@@ -1,1 +1,3 @@
 pub mod NamesLemmas
+pub mod PerRoleLemmas
+pub mod TextsLemmas

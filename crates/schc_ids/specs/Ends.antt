@@ -16,6 +16,15 @@ abbrev pub sent_direction : Role → Direction
 sent_direction Device = way.Up
 sent_direction Gateway = way.Down
 
+-- the direction of what an end takes
+abbrev pub taken_direction : Role → Direction
+taken_direction role = sent_direction (other_role role)
+
+-- the other way
+abbrev pub other_direction : Direction → Direction
+other_direction way.Up = way.Down
+other_direction way.Down = way.Up
+
 -- an entry is used in the direction that its indicator (DI) names, or in both: RFC 8724, section 7.1
 abbrev pub covers : DirInd → Direction → Bool
 covers indicator.Up way.Up = true

@@ -4,115 +4,93 @@ use Rattle.schc_ids.specs.declared.names.Layer.TheVariants as layer
 use Rattle.schc_ids.specs.declared.names.Stack.{Stack}
 use Rattle.schc_ids.specs.declared.names.Stack.TheVariants as stack
 use Rattle.schc_ids.specs.declared.names.FieldName.{FieldName}
-use Rattle.schc_ids.specs.declared.names.FieldName.TheVariants.{
-  IpVersion,
-  IpTrafficClass,
-  IpFlowLabel,
-  IpPayloadLength,
-  IpNextHeader,
-  IpHopLimit,
-  IpDevPrefix,
-  IpDevIid,
-  IpAppPrefix,
-  IpAppIid,
-  UdpDevPort,
-  UdpAppPort,
-  UdpLength,
-  UdpChecksum,
-  CoapVersion,
-  CoapType,
-  CoapTkl,
-  CoapCode,
-  CoapMid,
-  CoapToken,
-  CoapOption,
-}
+use Rattle.schc_ids.specs.declared.names.FieldName.TheVariants as field
 
 -- the bits of a field: RFC 8200, section 3 (an address as a prefix and an interface identifier of 64 bits each),
 -- RFC 768, and RFC 7252, section 3; none for the token and the options
 abbrev pub width_of : FieldName → Option ℕ
-width_of IpVersion = Some 4
-width_of IpTrafficClass = Some 8
-width_of IpFlowLabel = Some 20
-width_of IpPayloadLength = Some 16
-width_of IpNextHeader = Some 8
-width_of IpHopLimit = Some 8
-width_of IpDevPrefix = Some 64
-width_of IpDevIid = Some 64
-width_of IpAppPrefix = Some 64
-width_of IpAppIid = Some 64
-width_of UdpDevPort = Some 16
-width_of UdpAppPort = Some 16
-width_of UdpLength = Some 16
-width_of UdpChecksum = Some 16
-width_of CoapVersion = Some 2
-width_of CoapType = Some 2
-width_of CoapTkl = Some 4
-width_of CoapCode = Some 8
-width_of CoapMid = Some 16
-width_of CoapToken = None
-width_of (CoapOption number) = None
+width_of field.IpVersion = Some 4
+width_of field.IpTrafficClass = Some 8
+width_of field.IpFlowLabel = Some 20
+width_of field.IpPayloadLength = Some 16
+width_of field.IpNextHeader = Some 8
+width_of field.IpHopLimit = Some 8
+width_of field.IpDevPrefix = Some 64
+width_of field.IpDevIid = Some 64
+width_of field.IpAppPrefix = Some 64
+width_of field.IpAppIid = Some 64
+width_of field.UdpDevPort = Some 16
+width_of field.UdpAppPort = Some 16
+width_of field.UdpLength = Some 16
+width_of field.UdpChecksum = Some 16
+width_of field.CoapVersion = Some 2
+width_of field.CoapType = Some 2
+width_of field.CoapTkl = Some 4
+width_of field.CoapCode = Some 8
+width_of field.CoapMid = Some 16
+width_of field.CoapToken = None
+width_of (field.CoapOption number) = None
 
 -- a name of a CoAP option
 abbrev pub is_option : FieldName → Bool
-is_option (CoapOption number) = true
+is_option (field.CoapOption number) = true
 is_option _ = false
 
 -- the layer whose header has the field
 abbrev pub layer_of : FieldName → Layer
-layer_of IpVersion = layer.Ip
-layer_of IpTrafficClass = layer.Ip
-layer_of IpFlowLabel = layer.Ip
-layer_of IpPayloadLength = layer.Ip
-layer_of IpNextHeader = layer.Ip
-layer_of IpHopLimit = layer.Ip
-layer_of IpDevPrefix = layer.Ip
-layer_of IpDevIid = layer.Ip
-layer_of IpAppPrefix = layer.Ip
-layer_of IpAppIid = layer.Ip
-layer_of UdpDevPort = layer.Udp
-layer_of UdpAppPort = layer.Udp
-layer_of UdpLength = layer.Udp
-layer_of UdpChecksum = layer.Udp
+layer_of field.IpVersion = layer.Ip
+layer_of field.IpTrafficClass = layer.Ip
+layer_of field.IpFlowLabel = layer.Ip
+layer_of field.IpPayloadLength = layer.Ip
+layer_of field.IpNextHeader = layer.Ip
+layer_of field.IpHopLimit = layer.Ip
+layer_of field.IpDevPrefix = layer.Ip
+layer_of field.IpDevIid = layer.Ip
+layer_of field.IpAppPrefix = layer.Ip
+layer_of field.IpAppIid = layer.Ip
+layer_of field.UdpDevPort = layer.Udp
+layer_of field.UdpAppPort = layer.Udp
+layer_of field.UdpLength = layer.Udp
+layer_of field.UdpChecksum = layer.Udp
 layer_of _ = layer.Coap
 
 -- the place of a field in packet order; options stand last, by their numbers
 abbrev pub rank_of : FieldName → ℕ
-rank_of IpVersion = 0
-rank_of IpTrafficClass = 1
-rank_of IpFlowLabel = 2
-rank_of IpPayloadLength = 3
-rank_of IpNextHeader = 4
-rank_of IpHopLimit = 5
-rank_of IpDevPrefix = 6
-rank_of IpDevIid = 7
-rank_of IpAppPrefix = 8
-rank_of IpAppIid = 9
-rank_of UdpDevPort = 10
-rank_of UdpAppPort = 11
-rank_of UdpLength = 12
-rank_of UdpChecksum = 13
-rank_of CoapVersion = 14
-rank_of CoapType = 15
-rank_of CoapTkl = 16
-rank_of CoapCode = 17
-rank_of CoapMid = 18
-rank_of CoapToken = 19
-rank_of (CoapOption number) = 20 + number
+rank_of field.IpVersion = 0
+rank_of field.IpTrafficClass = 1
+rank_of field.IpFlowLabel = 2
+rank_of field.IpPayloadLength = 3
+rank_of field.IpNextHeader = 4
+rank_of field.IpHopLimit = 5
+rank_of field.IpDevPrefix = 6
+rank_of field.IpDevIid = 7
+rank_of field.IpAppPrefix = 8
+rank_of field.IpAppIid = 9
+rank_of field.UdpDevPort = 10
+rank_of field.UdpAppPort = 11
+rank_of field.UdpLength = 12
+rank_of field.UdpChecksum = 13
+rank_of field.CoapVersion = 14
+rank_of field.CoapType = 15
+rank_of field.CoapTkl = 16
+rank_of field.CoapCode = 17
+rank_of field.CoapMid = 18
+rank_of field.CoapToken = 19
+rank_of (field.CoapOption number) = 20 + number
 
 -- the fields of an IPv6 header
 abbrev pub ip_fields : List FieldName
 ip_fields =
-    IpVersion ∷ IpTrafficClass ∷ IpFlowLabel ∷ IpPayloadLength ∷ IpNextHeader ∷ IpHopLimit ∷ IpDevPrefix
-    ∷ IpDevIid ∷ IpAppPrefix ∷ IpAppIid ∷ []
+    field.IpVersion ∷ field.IpTrafficClass ∷ field.IpFlowLabel ∷ field.IpPayloadLength ∷ field.IpNextHeader ∷ field.IpHopLimit ∷ field.IpDevPrefix
+    ∷ field.IpDevIid ∷ field.IpAppPrefix ∷ field.IpAppIid ∷ []
 
 -- the fields of a UDP header
 abbrev pub udp_fields : List FieldName
-udp_fields = UdpDevPort ∷ UdpAppPort ∷ UdpLength ∷ UdpChecksum ∷ []
+udp_fields = field.UdpDevPort ∷ field.UdpAppPort ∷ field.UdpLength ∷ field.UdpChecksum ∷ []
 
 -- the fields that each CoAP message has
 abbrev pub coap_fields : List FieldName
-coap_fields = CoapVersion ∷ CoapType ∷ CoapTkl ∷ CoapCode ∷ CoapMid ∷ []
+coap_fields = field.CoapVersion ∷ field.CoapType ∷ field.CoapTkl ∷ field.CoapCode ∷ field.CoapMid ∷ []
 
 -- the fields that each packet of a stack has, in packet order
 abbrev pub fields_of_stack : Stack → List FieldName
@@ -129,25 +107,25 @@ same_layer _ _ = false
 
 -- whether two names are one
 abbrev pub same_name : FieldName → FieldName → Bool
-same_name IpVersion IpVersion = true
-same_name IpTrafficClass IpTrafficClass = true
-same_name IpFlowLabel IpFlowLabel = true
-same_name IpPayloadLength IpPayloadLength = true
-same_name IpNextHeader IpNextHeader = true
-same_name IpHopLimit IpHopLimit = true
-same_name IpDevPrefix IpDevPrefix = true
-same_name IpDevIid IpDevIid = true
-same_name IpAppPrefix IpAppPrefix = true
-same_name IpAppIid IpAppIid = true
-same_name UdpDevPort UdpDevPort = true
-same_name UdpAppPort UdpAppPort = true
-same_name UdpLength UdpLength = true
-same_name UdpChecksum UdpChecksum = true
-same_name CoapVersion CoapVersion = true
-same_name CoapType CoapType = true
-same_name CoapTkl CoapTkl = true
-same_name CoapCode CoapCode = true
-same_name CoapMid CoapMid = true
-same_name CoapToken CoapToken = true
-same_name (CoapOption a) (CoapOption b) = a == b
+same_name field.IpVersion field.IpVersion = true
+same_name field.IpTrafficClass field.IpTrafficClass = true
+same_name field.IpFlowLabel field.IpFlowLabel = true
+same_name field.IpPayloadLength field.IpPayloadLength = true
+same_name field.IpNextHeader field.IpNextHeader = true
+same_name field.IpHopLimit field.IpHopLimit = true
+same_name field.IpDevPrefix field.IpDevPrefix = true
+same_name field.IpDevIid field.IpDevIid = true
+same_name field.IpAppPrefix field.IpAppPrefix = true
+same_name field.IpAppIid field.IpAppIid = true
+same_name field.UdpDevPort field.UdpDevPort = true
+same_name field.UdpAppPort field.UdpAppPort = true
+same_name field.UdpLength field.UdpLength = true
+same_name field.UdpChecksum field.UdpChecksum = true
+same_name field.CoapVersion field.CoapVersion = true
+same_name field.CoapType field.CoapType = true
+same_name field.CoapTkl field.CoapTkl = true
+same_name field.CoapCode field.CoapCode = true
+same_name field.CoapMid field.CoapMid = true
+same_name field.CoapToken field.CoapToken = true
+same_name (field.CoapOption a) (field.CoapOption b) = a == b
 same_name _ _ = false

@@ -1,10 +1,12 @@
 -- The texts of field names in rule text: field identifiers in the manner of RFC 9363, and the names of the options of RFC 7252
 -- (section 5.10), RFC 7641, RFC 7959, RFC 7967 and RFC 8613.
-use Rattle.std.specs.Prelude.{ℕ, ◌==◌, Bool, false, if◌then◌else◌, List, [], ◌∷◌, Option, Some, None, codes, find}
+use Rattle.std.specs.Prelude.{ℕ, ◌≡◌, ◌↔◌, ◌==◌, Bool, false, if◌then◌else◌, List, [], ◌∷◌, ◌++◌, map, Option, Some, None, codes, find}
 use Rattle.std.specs.Option.{option_map_or}
 use Rattle.std.specs.Str.{bytes_eq}
 use Rattle.schc_ids.specs.declared.names.FieldName.{FieldName}
-use Rattle.schc_ids.specs.declared.names.FieldName.TheVariants.{IpVersion, IpTrafficClass, IpFlowLabel, IpPayloadLength, IpNextHeader, IpHopLimit, IpDevPrefix, IpDevIid, IpAppPrefix, IpAppIid, UdpDevPort, UdpAppPort, UdpLength, UdpChecksum, CoapVersion, CoapType, CoapTkl, CoapCode, CoapMid, CoapToken, CoapOption}
+use Rattle.schc_ids.specs.declared.names.FieldName.TheVariants as field
+use Rattle.schc_ids.specs.declared.names.Stack.TheVariants as stack
+use Rattle.schc_ids.specs.Names.{fields_of_stack}
 
 -- the text of an option's name
 unfoldable pub option_text : ℕ → Option (List ℕ)
@@ -34,73 +36,36 @@ option_text number =
 
 -- the text of a name, which some options have and all other fields
 unfoldable pub text_of : FieldName → Option (List ℕ)
-text_of IpVersion = Some (codes "fid-ipv6-version")
-text_of IpTrafficClass = Some (codes "fid-ipv6-trafficclass")
-text_of IpFlowLabel = Some (codes "fid-ipv6-flowlabel")
-text_of IpPayloadLength = Some (codes "fid-ipv6-payload-length")
-text_of IpNextHeader = Some (codes "fid-ipv6-nextheader")
-text_of IpHopLimit = Some (codes "fid-ipv6-hoplimit")
-text_of IpDevPrefix = Some (codes "fid-ipv6-devprefix")
-text_of IpDevIid = Some (codes "fid-ipv6-deviid")
-text_of IpAppPrefix = Some (codes "fid-ipv6-appprefix")
-text_of IpAppIid = Some (codes "fid-ipv6-appiid")
-text_of UdpDevPort = Some (codes "fid-udp-dev-port")
-text_of UdpAppPort = Some (codes "fid-udp-app-port")
-text_of UdpLength = Some (codes "fid-udp-length")
-text_of UdpChecksum = Some (codes "fid-udp-checksum")
-text_of CoapVersion = Some (codes "fid-coap-version")
-text_of CoapType = Some (codes "fid-coap-type")
-text_of CoapTkl = Some (codes "fid-coap-tkl")
-text_of CoapCode = Some (codes "fid-coap-code")
-text_of CoapMid = Some (codes "fid-coap-mid")
-text_of CoapToken = Some (codes "fid-coap-token")
-text_of (CoapOption number) = option_text number
+text_of field.IpVersion = Some (codes "fid-ipv6-version")
+text_of field.IpTrafficClass = Some (codes "fid-ipv6-trafficclass")
+text_of field.IpFlowLabel = Some (codes "fid-ipv6-flowlabel")
+text_of field.IpPayloadLength = Some (codes "fid-ipv6-payload-length")
+text_of field.IpNextHeader = Some (codes "fid-ipv6-nextheader")
+text_of field.IpHopLimit = Some (codes "fid-ipv6-hoplimit")
+text_of field.IpDevPrefix = Some (codes "fid-ipv6-devprefix")
+text_of field.IpDevIid = Some (codes "fid-ipv6-deviid")
+text_of field.IpAppPrefix = Some (codes "fid-ipv6-appprefix")
+text_of field.IpAppIid = Some (codes "fid-ipv6-appiid")
+text_of field.UdpDevPort = Some (codes "fid-udp-dev-port")
+text_of field.UdpAppPort = Some (codes "fid-udp-app-port")
+text_of field.UdpLength = Some (codes "fid-udp-length")
+text_of field.UdpChecksum = Some (codes "fid-udp-checksum")
+text_of field.CoapVersion = Some (codes "fid-coap-version")
+text_of field.CoapType = Some (codes "fid-coap-type")
+text_of field.CoapTkl = Some (codes "fid-coap-tkl")
+text_of field.CoapCode = Some (codes "fid-coap-code")
+text_of field.CoapMid = Some (codes "fid-coap-mid")
+text_of field.CoapToken = Some (codes "fid-coap-token")
+text_of (field.CoapOption number) = option_text number
+
+-- the numbers of the options that have a text
+abbrev pub named_options : List ℕ
+named_options =
+    1 ∷ 3 ∷ 4 ∷ 5 ∷ 6 ∷ 7 ∷ 8 ∷ 9 ∷ 11 ∷ 12 ∷ 14 ∷ 15 ∷ 17 ∷ 20 ∷ 23 ∷ 27 ∷ 28 ∷ 35 ∷ 39 ∷ 60 ∷ 258 ∷ []
 
 -- the names that have a text
 abbrev pub named_fields : List FieldName
-named_fields =
-    IpVersion
-    ∷ IpTrafficClass
-    ∷ IpFlowLabel
-    ∷ IpPayloadLength
-    ∷ IpNextHeader
-    ∷ IpHopLimit
-    ∷ IpDevPrefix
-    ∷ IpDevIid
-    ∷ IpAppPrefix
-    ∷ IpAppIid
-    ∷ UdpDevPort
-    ∷ UdpAppPort
-    ∷ UdpLength
-    ∷ UdpChecksum
-    ∷ CoapVersion
-    ∷ CoapType
-    ∷ CoapTkl
-    ∷ CoapCode
-    ∷ CoapMid
-    ∷ CoapToken
-    ∷ CoapOption 1
-    ∷ CoapOption 3
-    ∷ CoapOption 4
-    ∷ CoapOption 5
-    ∷ CoapOption 6
-    ∷ CoapOption 7
-    ∷ CoapOption 8
-    ∷ CoapOption 9
-    ∷ CoapOption 11
-    ∷ CoapOption 12
-    ∷ CoapOption 14
-    ∷ CoapOption 15
-    ∷ CoapOption 17
-    ∷ CoapOption 20
-    ∷ CoapOption 23
-    ∷ CoapOption 27
-    ∷ CoapOption 28
-    ∷ CoapOption 35
-    ∷ CoapOption 39
-    ∷ CoapOption 60
-    ∷ CoapOption 258
-    ∷ []
+named_fields = fields_of_stack stack.IpUdpCoap ++ field.CoapToken ∷ map field.CoapOption named_options
 
 -- whether this is the name's text
 abbrev pub has_text : FieldName → List ℕ → Bool
@@ -109,3 +74,7 @@ has_text name text = option_map_or (λ its. bytes_eq its text) (text_of name) fa
 -- the name that has this text
 unfoldable pub name_of_text : List ℕ → Option FieldName
 name_of_text text = find (λ name. has_text name text) named_fields
+
+-- the text of a field's name names that field, and no other text does
+abbrev pub TextsName : Type 0
+TextsName = (name : FieldName) (text : List ℕ) → (text_of name ≡ Some text) ↔ (name_of_text text ≡ Some name)

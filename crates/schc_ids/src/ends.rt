@@ -1,5 +1,8 @@
 ghost use Rattle.std.specs.Prelude.{◌≡◌};
 ghost use Rattle.schc_ids.specs.Ends.{other_role, sent_direction, covers, share_direction};
+ghost use Rattle.schc_ids.specs.Params.{IsParams, default_params};
+
+use crate::limits::MAX_MTU;
 
 /// One of the two ends of the link.
 #[derive(Clone, Copy, Debug, PartialEq, Eq)]
@@ -73,9 +76,60 @@ pub struct Iids {
     pub app: u64,
 }
 
-/// What an end is made with: the interface identifiers, and the most bytes that a frame has.
+/// Where the last tile of an SCHC packet goes in ACK-on-Error (RFC 8724 section 8.4.3).
+#[derive(Clone, Copy, Debug, PartialEq, Eq)]
+pub enum LastTile {
+    /// In the All-1 fragment.
+    InAll1,
+    /// In a Regular fragment; the All-1 has no tile then.
+    InRegular,
+}
+
+/// For how many ticks each timer of a session runs, 1 to 1,000,000 each.
+#[derive(Clone, Copy, Debug, PartialEq, Eq)]
+pub struct TimerTicks {
+    /// Until a request that wasn't answered is made again (RFC 8724 section 8.2.2.4).
+    pub retransmission: u32,
+    /// Until a receiver that hears nothing gives up (RFC 8724 section 8.2.2.4).
+    pub inactivity: u32,
+    /// For how long a receiver that has finished still answers.
+    pub linger: u32,
+    /// For how long a sender keeps silent after a session.
+    pub quiet: u32,
+}
+
+/// What an end is made with.
 #[derive(Clone, Copy, Debug, PartialEq, Eq)]
 pub struct EndParams {
     pub iids: Iids,
+    /// The most bytes that a frame has, 15 to 242.
     pub mtu: u16,
+    /// Whether the fragments that this end sends are answered (ACK-on-Error and ACK-Always), or
+    /// not (No-ACK).
+    pub acked: bool,
+    pub last: LastTile,
+    pub ticks: TimerTicks,
+}
+
+impl EndParams {
+    /// An end with these interface identifiers, and everything else as it is where nothing is said:
+    /// frames of up to 242 bytes, answered fragments, the last tile in the All-1, and 10, 40, 40
+    /// and 100 ticks.
+    pub fn with_defaults(iids: Iids) -> EndParams
+        ensures exact { result ≡ default_params iids }
+        ensures in_range { IsParams result }
+    {
+        EndParams {
+            iids,
+            mtu: MAX_MTU,
+            acked: true,
+            last: LastTile::InAll1,
+            ticks: TimerTicks {
+                retransmission: 10,
+                inactivity: 40,
+                linger: 40,
+                quiet: 100,
+            },
+        }
+    }
 }

@@ -24,3 +24,14 @@ pub enum UnpackFault {
     /// Memory is wanting.
     Memory,
 }
+
+/// Why a fragment or an answer can't be read.
+#[derive(Clone, Copy, Debug, PartialEq, Eq)]
+pub enum WireFault {
+    /// It has no byte.
+    Empty,
+    /// It has fewer bytes than its form has.
+    TooShort,
+    /// It has no form of a message.
+    WrongForm,
+}

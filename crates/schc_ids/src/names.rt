@@ -169,37 +169,8 @@ pub fn width(name: FieldName) -> Option<u16>
     }
 }
 
-const IP_NAMES: [FieldName; 10] = [
-    FieldName::IpVersion,
-    FieldName::IpTrafficClass,
-    FieldName::IpFlowLabel,
-    FieldName::IpPayloadLength,
-    FieldName::IpNextHeader,
-    FieldName::IpHopLimit,
-    FieldName::IpDevPrefix,
-    FieldName::IpDevIid,
-    FieldName::IpAppPrefix,
-    FieldName::IpAppIid,
-];
-
-const IP_UDP_NAMES: [FieldName; 14] = [
-    FieldName::IpVersion,
-    FieldName::IpTrafficClass,
-    FieldName::IpFlowLabel,
-    FieldName::IpPayloadLength,
-    FieldName::IpNextHeader,
-    FieldName::IpHopLimit,
-    FieldName::IpDevPrefix,
-    FieldName::IpDevIid,
-    FieldName::IpAppPrefix,
-    FieldName::IpAppIid,
-    FieldName::UdpDevPort,
-    FieldName::UdpAppPort,
-    FieldName::UdpLength,
-    FieldName::UdpChecksum,
-];
-
-const IP_UDP_COAP_NAMES: [FieldName; 19] = [
+/// The names that have a text, in packet order: the fields of IPv6, of UDP, of CoAP, and options.
+pub(crate) const NAMES: [FieldName; 41] = [
     FieldName::IpVersion,
     FieldName::IpTrafficClass,
     FieldName::IpFlowLabel,
@@ -219,6 +190,28 @@ const IP_UDP_COAP_NAMES: [FieldName; 19] = [
     FieldName::CoapTkl,
     FieldName::CoapCode,
     FieldName::CoapMid,
+    FieldName::CoapToken,
+    FieldName::CoapOption(1),
+    FieldName::CoapOption(3),
+    FieldName::CoapOption(4),
+    FieldName::CoapOption(5),
+    FieldName::CoapOption(6),
+    FieldName::CoapOption(7),
+    FieldName::CoapOption(8),
+    FieldName::CoapOption(9),
+    FieldName::CoapOption(11),
+    FieldName::CoapOption(12),
+    FieldName::CoapOption(14),
+    FieldName::CoapOption(15),
+    FieldName::CoapOption(17),
+    FieldName::CoapOption(20),
+    FieldName::CoapOption(23),
+    FieldName::CoapOption(27),
+    FieldName::CoapOption(28),
+    FieldName::CoapOption(35),
+    FieldName::CoapOption(39),
+    FieldName::CoapOption(60),
+    FieldName::CoapOption(258),
 ];
 
 /// The fields that each packet of the stack has, in packet order.
@@ -226,8 +219,8 @@ pub fn always_present(stack: Stack) -> &'static [FieldName]
     ensures { result.now ≡ fields_of_stack stack }
 {
     match stack {
-        Stack::Ip => &IP_NAMES,
-        Stack::IpUdp => &IP_UDP_NAMES,
-        Stack::IpUdpCoap => &IP_UDP_COAP_NAMES,
+        Stack::Ip => &NAMES[..10],
+        Stack::IpUdp => &NAMES[..14],
+        Stack::IpUdpCoap => &NAMES[..19],
     }
 }

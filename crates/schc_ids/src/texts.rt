@@ -4,52 +4,7 @@ ghost use Rattle.std.specs.Prelude.{◌≡◌};
 ghost use Rattle.std.specs.Option.{option_map};
 ghost use Rattle.schc_ids.specs.Texts.{option_text, text_of, has_text, name_of_text};
 
-use crate::names::FieldName;
-
-/// The names that have a text.
-const NAMED_FIELDS: [FieldName; 41] = [
-    FieldName::IpVersion,
-    FieldName::IpTrafficClass,
-    FieldName::IpFlowLabel,
-    FieldName::IpPayloadLength,
-    FieldName::IpNextHeader,
-    FieldName::IpHopLimit,
-    FieldName::IpDevPrefix,
-    FieldName::IpDevIid,
-    FieldName::IpAppPrefix,
-    FieldName::IpAppIid,
-    FieldName::UdpDevPort,
-    FieldName::UdpAppPort,
-    FieldName::UdpLength,
-    FieldName::UdpChecksum,
-    FieldName::CoapVersion,
-    FieldName::CoapType,
-    FieldName::CoapTkl,
-    FieldName::CoapCode,
-    FieldName::CoapMid,
-    FieldName::CoapToken,
-    FieldName::CoapOption(1),
-    FieldName::CoapOption(3),
-    FieldName::CoapOption(4),
-    FieldName::CoapOption(5),
-    FieldName::CoapOption(6),
-    FieldName::CoapOption(7),
-    FieldName::CoapOption(8),
-    FieldName::CoapOption(9),
-    FieldName::CoapOption(11),
-    FieldName::CoapOption(12),
-    FieldName::CoapOption(14),
-    FieldName::CoapOption(15),
-    FieldName::CoapOption(17),
-    FieldName::CoapOption(20),
-    FieldName::CoapOption(23),
-    FieldName::CoapOption(27),
-    FieldName::CoapOption(28),
-    FieldName::CoapOption(35),
-    FieldName::CoapOption(39),
-    FieldName::CoapOption(60),
-    FieldName::CoapOption(258),
-];
+use crate::names::{FieldName, NAMES};
 
 /// The text of an option's name.
 #[tactic(auto, unfolding(crate::specs::Texts::option_text))]
@@ -149,8 +104,5 @@ fn has_text(name: FieldName, text: &str) -> bool
 pub fn name_of_text(text: &str) -> Option<FieldName>
     ensures { result ≡ name_of_text text.now }
 {
-    NAMED_FIELDS
-        .iter()
-        .copied()
-        .find(|name| has_text(*name, text))
+    NAMES.iter().copied().find(|name| has_text(*name, text))
 }
