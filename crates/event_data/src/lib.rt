@@ -4,12 +4,10 @@
 
 mod events;
 mod frames;
-mod notes;
 mod outcomes;
 
-pub use events::WorldEvent;
+pub use events::{Target, WorldEvent};
 pub use frames::{Frame, HandUp};
-pub use notes::{Cause, Note};
 pub use outcomes::{
     Accepted, DownFault, Emission, EmitKind, Emitted, Line, Offered, StepFault, Taken,
 };

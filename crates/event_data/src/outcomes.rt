@@ -1,6 +1,6 @@
 use crate::frames::{Frame, HandUp};
-use crate::notes::Note;
 use rule_model::Finding;
+use schc_ids::{Note, Report};
 
 /// Why an end refuses a packet that is handed down, in the order in which the causes are looked at.
 #[derive(Clone, Copy, Debug, PartialEq, Eq)]
@@ -27,7 +27,10 @@ pub struct Accepted {
 /// What an end answers to a frame.
 #[derive(Drop)]
 pub struct Taken {
+    /// The packet that the end hands up, where the frame makes one whole.
     pub up: Option<HandUp>,
+    /// How the session of this end ended, where the frame ends it.
+    pub report: Option<Report>,
     pub note: Note,
 }
 
@@ -36,6 +39,12 @@ pub struct Taken {
 pub enum EmitKind {
     /// A whole SCHC packet.
     Whole,
+    /// The first message of the session with this number.
+    Begins(u64),
+    /// A further message of the session with this number.
+    Goes(u64),
+    /// An answer to what was received, or a Receiver-Abort.
+    Answers,
 }
 
 /// A frame that an end sends.
@@ -43,6 +52,8 @@ pub enum EmitKind {
 pub struct Emitted {
     pub frame: Frame,
     pub kind: EmitKind,
+    /// How the session of this end ended, where it ends with the frame.
+    pub report: Option<Report>,
 }
 
 /// A frame that was sent, with its number in its direction, from 1.
@@ -75,6 +86,10 @@ pub enum Line {
     Slot(Option<Emission>),
     /// What the frame that was delivered meant.
     Deliver(Taken),
+    /// How the sessions ended that ended at the tick: the device's, then the gateway's.
+    Tick(Option<Report>, Option<Report>),
+    /// How the session ended, or `None` where none was under way.
+    Abort(Option<Report>),
     /// The edition with this number was published.
     Published(u32),
     /// The edition that was published is refused: the first finding.
