@@ -1,7 +1,8 @@
 -- The source and the sink in memory.
-use Rattle.std.specs.Prelude.{ℕ, ◌-◌, min, Bool, ◌&&◌, ◌==◌, if◌then◌else◌, List, ◌++◌, length, take, drop, nat_lt}
+use Rattle.std.specs.Prelude.{ℕ, ◌-◌, min, Bool, ◌&&◌, ◌==◌, if◌then◌else◌, List, ◌++◌, length, take, drop, nat_lt, Some}
 use Rattle.std.specs.List.{list_any}
 use Rattle.outside.specs.Counting.{next_count}
+use Rattle.outside.specs.States.{SourceState, SinkState}
 use Rattle.outside.specs.declared.sources.Read.{Read}
 use Rattle.outside.specs.declared.sources.Read.TheVariants as read
 use Rattle.outside.specs.declared.sinks.Wrote.{Wrote}
@@ -22,6 +23,13 @@ pub record SinkData : Type 0 where
   pub failing : List ℕ
   pub writes : ℕ
   pub faults : ℕ
+
+-- a source and a sink in memory tell all
+abbrev pub source_state : SourceData → SourceState
+source_state source = record { left = Some source.left; faults = source.faults }
+
+abbrev pub sink_state : SinkData → SinkState
+sink_state sink = record { written = Some sink.written; faults = sink.faults }
 
 -- the call with this number is among those that fail
 abbrev pub fails : List ℕ → ℕ → Bool

@@ -1,7 +1,7 @@
 //! The loops that read a source to its end and write a whole text.
-ghost use Rattle.std.specs.Prelude.{◌≡◌, ◌≤◌, OnErr, Err};
+ghost use Rattle.std.specs.Prelude.{◌≤◌, OnErr};
 ghost use Rattle.outside.specs.Counting.{Rose};
-ghost use Rattle.outside.specs.Reading.{ReadsAll};
+ghost use Rattle.outside.specs.Reading.{ReadsAll, CountsFailedReading};
 ghost use Rattle.outside.specs.Writing.{WritesAll};
 
 use super::sinks::{Sink, Wrote};
@@ -33,9 +33,9 @@ pub fn read_all<S: Source>(
     source: &mut S,
     limit: usize,
 ) -> Result<Vec<u8>, ReadAllFault>
-    ensures reads { ReadsAll result limit (S.left source.old) (S.left source.new) }
-    ensures failed { result ≡ Err ReadAllFault.Fault → Rose (S.faults source.old) (S.faults source.new) }
-    ensures grows { S.faults source.old ≤ S.faults source.new }
+    ensures reads { ReadsAll result limit (S.state source.old) (S.state source.new) }
+    ensures failed { CountsFailedReading result (S.state source.old) (S.state source.new) }
+    ensures grows { (S.state source.old).faults ≤ (S.state source.new).faults }
 {
     let mut bytes = Vec::new(alloc);
     let mut room = [0u8; ROOM];
@@ -65,9 +65,9 @@ pub struct WriteFault;
 ///
 /// A write failed, or took nothing. A front of the text has then been written.
 pub fn write_all<K: Sink>(sink: &mut K, text: &[u8]) -> Result<(), WriteFault>
-    ensures writes { WritesAll result text.now (K.written sink.old) (K.written sink.new) }
-    ensures failed { OnErr result (Rose (K.faults sink.old) (K.faults sink.new)) }
-    ensures grows { K.faults sink.old ≤ K.faults sink.new }
+    ensures writes { WritesAll result text.now (K.state sink.old) (K.state sink.new) }
+    ensures failed { OnErr result (Rose (K.state sink.old).faults (K.state sink.new).faults) }
+    ensures grows { (K.state sink.old).faults ≤ (K.state sink.new).faults }
 {
     let mut at = 0;
     while at < text.len() {

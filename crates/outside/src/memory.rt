@@ -3,7 +3,7 @@ ghost use Rattle.std.specs.Prelude.{ℕ, List, [], ◌++◌, ◌≡◌, ◌+◌,
 ghost use Rattle.outside.specs.Counting.{StaysAtEnd};
 ghost use Rattle.outside.specs.Reading.{Reads, CountsFailedRead};
 ghost use Rattle.outside.specs.Writing.{Writes, CountsFailedWrite};
-ghost use Rattle.outside.specs.InMemory.{SourceData, SinkData, read_step, room_after, write_step};
+ghost use Rattle.outside.specs.InMemory.{SourceData, SinkData, source_state, sink_state, read_step, room_after, write_step};
 
 use super::sinks::{Sink, Wrote};
 use super::sources::{Read, Source};
@@ -56,17 +56,15 @@ impl MemSource {
 }
 
 impl Source for MemSource {
-    ghost left = { λ s. Some s.left };
-
-    ghost faults = { λ s. s.faults };
+    ghost state = { λ s. source_state s };
 
     /// Reads as many bytes as are left and the room has place for. A read that fails takes none.
     fn read(&mut self, room: &mut [u8]) -> Read
         requires { 0 < length room.old }
         ensures step { read_step self.old (length room.old) ≡ (result, self.new) }
         ensures room { room.new ≡ room_after result self.old.left room.old }
-        ensures bytes { Reads result room.new (Some self.old.left) (Some self.new.left) }
-        ensures failed { CountsFailedRead result self.old.faults self.new.faults }
+        ensures bytes { Reads result room.new (source_state self.old) (source_state self.new) }
+        ensures failed { CountsFailedRead result (source_state self.old) (source_state self.new) }
         ensures grows { self.old.faults ≤ self.new.faults }
         ensures stays { StaysAtEnd self.old.faults self.new.faults }
     {
@@ -156,16 +154,14 @@ impl MemSink {
 }
 
 impl Sink for MemSink {
-    ghost written = { λ s. Some s.written };
-
-    ghost faults = { λ s. s.faults };
+    ghost state = { λ s. sink_state s };
 
     /// Takes as many bytes of `piece` as still fit. Where none fits of a piece that isn't empty, the
     /// count of faults rises. A write that fails takes none.
     fn write(&mut self, piece: &[u8]) -> Wrote
         ensures step { write_step self.old piece.now ≡ (result, self.new) }
-        ensures bytes { Writes result piece.now (Some self.old.written) (Some self.new.written) }
-        ensures failed { CountsFailedWrite result piece.now self.old.faults self.new.faults }
+        ensures bytes { Writes result piece.now (sink_state self.old) (sink_state self.new) }
+        ensures failed { CountsFailedWrite result piece.now (sink_state self.old) (sink_state self.new) }
         ensures grows { self.old.faults ≤ self.new.faults }
         ensures stays { StaysAtEnd self.old.faults self.new.faults }
     {

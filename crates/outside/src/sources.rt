@@ -1,7 +1,8 @@
 //! What bytes are read from.
-ghost use Rattle.std.specs.Prelude.{ℕ, List, Option, length, ◌<◌, ◌≤◌};
+ghost use Rattle.std.specs.Prelude.{length, ◌<◌, ◌≤◌};
 ghost use Rattle.outside.specs.Counting.{StaysAtEnd};
 ghost use Rattle.outside.specs.Reading.{Reads, CountsFailedRead};
+ghost use Rattle.outside.specs.States.{SourceState};
 
 /// The answer of a read.
 #[derive(Clone, Copy, PartialEq, Eq, Debug)]
@@ -16,11 +17,8 @@ pub enum Read {
 
 /// What bytes are read from, in order.
 pub trait Source {
-    // The bytes that are left to be read; `None` where the source doesn't tell.
-    ghost left: { Self → Option (List ℕ) };
-
-    // How often the source has failed.
-    ghost faults: { Self → ℕ };
+    // The bytes that are left to be read, where the source tells them, and how often it has failed.
+    ghost state: { Self → SourceState };
 
     /// Reads the next bytes, one or more, into the front of `room`, which isn't empty.
     ///
@@ -28,16 +26,14 @@ pub trait Source {
     /// count of faults rose in this call.
     fn read(&mut self, room: &mut [u8]) -> Read
         requires { 0 < length room.old }
-        ensures bytes { Reads result room.new (left self.old) (left self.new) }
-        ensures failed { CountsFailedRead result (faults self.old) (faults self.new) }
-        ensures grows { faults self.old ≤ faults self.new }
-        ensures stays { StaysAtEnd (faults self.old) (faults self.new) };
+        ensures bytes { Reads result room.new (state self.old) (state self.new) }
+        ensures failed { CountsFailedRead result (state self.old) (state self.new) }
+        ensures grows { (state self.old).faults ≤ (state self.new).faults }
+        ensures stays { StaysAtEnd (state self.old).faults (state self.new).faults };
 }
 
 impl<S: Source> Source for &mut S {
-    ghost left = { λ s. S.left s.now };
-
-    ghost faults = { λ s. S.faults s.now };
+    ghost state = { λ s. S.state s.now };
 
     fn read(&mut self, room: &mut [u8]) -> Read {
         (**self).read(room)

@@ -1,6 +1,6 @@
 //! std's readers and writers as source and sink. This is the trusted edge: nothing is told of what
 //! they have left or hold, and failures are counted.
-ghost use Rattle.std.specs.Prelude.{◌≡◌, ℕ, None, List, Option};
+ghost use Rattle.std.specs.Prelude.{◌≡◌, ℕ, None};
 
 use super::sinks::{Sink, Wrote};
 use super::sources::{Read, Source};
@@ -31,9 +31,7 @@ impl<R> StdSource<R> {
 }
 
 impl<R: io::Read> Source for StdSource<R> {
-    ghost left = { λ _. None };
-
-    ghost faults = { λ s. s };
+    ghost state = { λ faults. record { left = None; faults = faults } };
 
     /// One read of the reader. A reader that gives no byte is at its end. An error, also that of an
     /// interrupted read, is a failure: there is no second try.
@@ -74,9 +72,7 @@ impl<W> StdSink<W> {
 }
 
 impl<W: io::Write> Sink for StdSink<W> {
-    ghost written = { λ _. None };
-
-    ghost faults = { λ s. s };
+    ghost state = { λ faults. record { written = None; faults = faults } };
 
     /// One write of the writer. An error, also that of an interrupted write, is a failure, and so is
     /// a write that takes no byte of a piece that isn't empty: there is no second try.
