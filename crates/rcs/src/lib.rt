@@ -1,0 +1,11 @@
+//! The reassembly check sequence of SCHC fragmentation (RFC 8724, section 8.2.3): the CRC-32 of
+//! IEEE 802.3 over the bits of a packet, padded to whole bytes.
+#![tactic(auto)]
+
+mod register;
+#[cfg(test)]
+mod tests;
+mod words;
+
+pub use register::{Register, rcs};
+pub use words::table_is_right;
