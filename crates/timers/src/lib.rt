@@ -1,0 +1,9 @@
+//! Timers that are named by small numbers, their keys.
+#![tactic(auto)]
+
+pub mod laws;
+#[cfg(test)]
+mod tests;
+mod timer_set;
+
+pub use timer_set::TimerSet;
