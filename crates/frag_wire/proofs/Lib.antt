@@ -1,0 +1,11 @@
+pub mod AckAlwaysLemmas
+pub mod AckOnErrorLemmas
+pub mod AnswersLemmas
+pub mod BitmapLemmas
+pub mod CanSpellLemmas
+pub mod FieldsLemmas
+pub mod FormsLemmas
+pub mod NoAckLemmas
+pub mod ReadingLemmas
+pub mod WrittenLemmas
+pub mod LawsLemmas

@@ -1,0 +1,9 @@
+pub mod AckAlways
+pub mod AckOnError
+pub mod Answers
+pub mod Fields
+pub mod Forms
+pub mod Layouts
+pub mod Laws
+pub mod NoAck
+pub mod Spells

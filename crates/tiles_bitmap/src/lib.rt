@@ -1,0 +1,11 @@
+//! How an SCHC packet is cut in tiles (RFC 8724 section 8.2.2.1), and the numbers of the tiles.
+#![tactic(auto)]
+
+mod cutting;
+pub mod laws;
+mod numbers;
+#[cfg(test)]
+mod tests;
+
+pub use cutting::{Cuts, cut};
+pub use numbers::{TileNumber, tile_number};
