@@ -14,9 +14,9 @@ ghost use Rattle.rule_model.specs.Residue.{
 };
 ghost use Rattle.compress.specs.Turns.{TurnHolds, TurnsHold, joined, turn_residue};
 
-use crate::write::{entries_of, msb_bits, rest_of};
-use rule_model::{Action, Admitted, Entry, Fields, Length, index_width, value_of};
-use schc_bits::Bits;
+use crate::write::rest_of;
+use rule_model::{Action, Admitted, Entry, Fields, Length, index_width, msb_bits, value_of};
+use schc_bits::{Bits, Part};
 use schc_ids::{Direction, covers};
 
 /// How many bits a size takes, in its shortest form (RFC 8724, section 7.4.2).
@@ -33,7 +33,7 @@ fn size_len(size: usize) -> usize
     }
 }
 
-fn sized_len(kind: Length, bits: &[bool]) -> usize
+fn sized_len(kind: Length, bits: &Part<'_>) -> usize
     requires { length (with_size kind bits.now) < 2 ^ 63 }
     ensures { result ≡ length (with_size kind bits.now) }
 {
@@ -50,14 +50,14 @@ fn index_len(targets: &[Bits]) -> usize
 }
 
 /// How many bits are sent of the entry's field, which has this value.
-fn entry_len(entry: &Entry, value: &[bool]) -> usize
+fn entry_len(entry: &Entry, value: &Part<'_>) -> usize
     requires { length (entry_residue entry.now value.now) < 2 ^ 63 }
     ensures { result ≡ length (entry_residue entry.now value.now) }
 {
     match entry.action {
         Action::ValueSent => sized_len(entry.length, value),
         Action::MappingSent => index_len(entry.targets.as_slice()),
-        Action::Lsb => sized_len(entry.length, rest_of(value, msb_bits(entry.operator))),
+        Action::Lsb => sized_len(entry.length, &rest_of(value, msb_bits(entry.operator))),
         Action::NotSent | Action::Compute | Action::DevIid | Action::AppIid => 0,
     }
 }
@@ -69,7 +69,7 @@ fn turn_len(entry: &Entry, direction: Direction, fields: &Fields) -> usize
     if !covers(entry.direction, direction) {
         return 0;
     }
-    entry_len(entry, value_of(fields, entry.field()))
+    entry_len(entry, &value_of(fields, entry.field()))
 }
 
 fn entries_len(entries: &[Entry], direction: Direction, fields: &Fields) -> usize
@@ -88,5 +88,5 @@ pub fn residue_len(rule: &Admitted, direction: Direction, fields: &Fields) -> us
     requires { length (residue_of rule.now direction fields.now.items) < 2 ^ 63 }
     ensures { result ≡ length (residue_of rule.now direction fields.now.items) }
 {
-    entries_len(entries_of(rule), direction, fields)
+    entries_len(rule.entries(), direction, fields)
 }

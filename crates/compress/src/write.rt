@@ -17,52 +17,33 @@ ghost use Rattle.rule_model.specs.Residue.{
 };
 ghost use Rattle.compress.specs.Turns.{KeepsFront, TurnHolds, TurnsHold, joined, turn_residue};
 
-use rule_model::{Action, Admitted, Entry, Fields, Length, Operator, index_width, value_of};
-use schc_bits::{Bits, same_items};
+use rule_model::{
+    Action, Admitted, Entry, Fields, Length, Operator, index_width, msb_bits, same_bits, value_of,
+};
+use schc_bits::{Bits, Part};
 use schc_ids::{Direction, covers};
 use std::alloc::AllocError;
 
-/// The rule's entries.
-pub(crate) fn entries_of(rule: &Admitted) -> &[Entry]
-    ensures { result.now ≡ rule.now.entries }
-{
-    rule.rule().entries.as_slice()
-}
-
-fn same_bits(target: &Bits, value: &[bool]) -> bool
-    ensures { result ≡ same_bits target.now value.now }
-{
-    same_items(target.as_slice(), value)
-}
-
-fn find_target(targets: &[Bits], value: &[bool]) -> Option<usize>
+fn find_target(targets: &[Bits], value: &Part<'_>) -> Option<usize>
     ensures { result ≡ position (λ target. same_bits target value.now) targets.now }
 {
-    targets.iter().position(|target| same_bits(target, value))
+    targets
+        .iter()
+        .position(|target| same_bits(&target.as_part(), value))
 }
 
 /// The index of the value among the targets, from 0; 0 where it is none of them.
-fn index_of(targets: &[Bits], value: &[bool]) -> usize
+fn index_of(targets: &[Bits], value: &Part<'_>) -> usize
     ensures { result ≡ index_of targets.now value.now }
 {
     find_target(targets, value).unwrap_or(0)
 }
 
-/// How many first bits MSB compares.
-pub(crate) fn msb_bits(operator: Operator) -> usize
-    ensures { result ≡ msb_bits operator }
-{
-    match operator {
-        Operator::Msb(bits) => usize::from(bits),
-        _ => 0,
-    }
-}
-
 /// The bits after the first `count`.
-pub(crate) fn rest_of(value: &[bool], count: usize) -> &[bool]
-    ensures { result.now ≡ drop count value.now }
+pub(crate) fn rest_of<'a>(value: &Part<'a>, count: usize) -> Part<'a>
+    ensures { result ≡ drop count value.now }
 {
-    &value[count.min(value.len())..]
+    value.after(count.min(value.len()))
 }
 
 /// The size in bytes, in its shortest form (RFC 8724, section 7.4.2).
@@ -81,7 +62,7 @@ fn push_size(out: &mut Bits, size: usize) -> Result<(), AllocError>
     }
 }
 
-fn push_sized(out: &mut Bits, length: Length, bits: &[bool]) -> Result<(), AllocError>
+fn push_sized(out: &mut Bits, length: Length, bits: &Part<'_>) -> Result<(), AllocError>
     requires { SizeHolds length Action.ValueSent Operator.Equal bits.now }
     ensures ok { OnOk result (out.new ≡ out.old ++ with_size length bits.now) }
     ensures err { OnErr result (KeepsFront out.old out.new) }
@@ -89,10 +70,10 @@ fn push_sized(out: &mut Bits, length: Length, bits: &[bool]) -> Result<(), Alloc
     if length == Length::Variable {
         push_size(out, bits.len() / 8)?;
     }
-    out.extend_from_slice(bits)
+    out.extend_from_part(bits)
 }
 
-fn push_index(out: &mut Bits, targets: &[Bits], value: &[bool]) -> Result<(), AllocError>
+fn push_index(out: &mut Bits, targets: &[Bits], value: &Part<'_>) -> Result<(), AllocError>
     ensures ok { OnOk result (out.new ≡ out.old ++ number_bits (index_width (length targets.now)) (index_of targets.now value.now)) }
     ensures err { OnErr result (out.new ≡ out.old) }
 {
@@ -100,7 +81,7 @@ fn push_index(out: &mut Bits, targets: &[Bits], value: &[bool]) -> Result<(), Al
 }
 
 /// What is sent of the entry's field, which has this value.
-fn push_entry(out: &mut Bits, entry: &Entry, value: &[bool]) -> Result<(), AllocError>
+fn push_entry(out: &mut Bits, entry: &Entry, value: &Part<'_>) -> Result<(), AllocError>
     requires { SizeHolds entry.now.length entry.now.action entry.now.operator value.now }
     ensures ok { OnOk result (out.new ≡ out.old ++ entry_residue entry.now value.now) }
     ensures err { OnErr result (KeepsFront out.old out.new) }
@@ -108,7 +89,7 @@ fn push_entry(out: &mut Bits, entry: &Entry, value: &[bool]) -> Result<(), Alloc
     match entry.action {
         Action::ValueSent => push_sized(out, entry.length, value),
         Action::MappingSent => push_index(out, entry.targets.as_slice(), value),
-        Action::Lsb => push_sized(out, entry.length, rest_of(value, msb_bits(entry.operator))),
+        Action::Lsb => push_sized(out, entry.length, &rest_of(value, msb_bits(entry.operator))),
         Action::NotSent | Action::Compute | Action::DevIid | Action::AppIid => Ok(()),
     }
 }
@@ -126,7 +107,7 @@ fn push_turn(
     if !covers(entry.direction, direction) {
         return Ok(());
     }
-    push_entry(out, entry, value_of(fields, entry.field()))
+    push_entry(out, entry, &value_of(fields, entry.field()))
 }
 
 fn push_entries(
@@ -161,7 +142,7 @@ pub fn residue(
     ensures err { OnErr result (out.new ≡ out.old) }
 {
     let before = out.len();
-    match push_entries(out, entries_of(rule), direction, fields) {
+    match push_entries(out, rule.entries(), direction, fields) {
         Ok(()) => Ok(()),
         Err(fault) => {
             out.truncate(before);

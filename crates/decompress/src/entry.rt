@@ -9,8 +9,8 @@ ghost use Rattle.decompress.specs.Refusals.{IsEntryRefusal, IsUnsent};
 
 use crate::number::read_number;
 use crate::value::read_value;
-use rule_model::{Action, Entry, Fields, Operator, index_width};
-use schc_bits::{BitReader, Bits};
+use rule_model::{Action, Entry, Fields, index_width, msb_bits};
+use schc_bits::{BitReader, Bits, CopyItem, Part};
 use schc_ids::{Iids, ResidueFault, width};
 use std::alloc::{AllocError, Global};
 
@@ -37,22 +37,13 @@ impl From<ResidueFault> for EntryFault {
     }
 }
 
-fn msb_bits(operator: Operator) -> usize
-    ensures { result ≡ msb_bits operator }
-{
-    match operator {
-        Operator::Msb(bits) => usize::from(bits),
-        _ => 0,
-    }
-}
-
 /// The target of an entry with one target.
-fn first_target(targets: &[Bits]) -> &[bool]
-    ensures { result.now ≡ first_target targets.now }
+fn first_target(targets: &[Bits]) -> Part<'_>
+    ensures { result ≡ first_target targets.now }
 {
     match targets.first() {
-        Some(target) => target.as_slice(),
-        None => &[],
+        Some(target) => target.as_part(),
+        None => Part::none(),
     }
 }
 
@@ -87,17 +78,22 @@ fn unsent(alloc: Global, entry: &Entry, iids: Iids) -> Result<Bits, AllocError>
         Action::DevIid => Bits::from_number(alloc, iids.dev, 64),
         Action::AppIid => Bits::from_number(alloc, iids.app, 64),
         Action::Compute => zeros(alloc, width(entry.name).unwrap_or(0)),
-        _ => Bits::from_slice(alloc, first_target(entry.targets.as_slice())),
+        _ => first_target(entry.targets.as_slice()).to_bits(alloc),
     }
 }
 
 /// The first bits of the target, this many, and then the others.
-fn joined(alloc: Global, targets: &[Bits], count: usize, rest: &[bool]) -> Result<Bits, AllocError>
+fn behind_target(
+    alloc: Global,
+    targets: &[Bits],
+    count: usize,
+    rest: &Part<'_>,
+) -> Result<Bits, AllocError>
     ensures { IfOk result (λ bits. bits ≡ take count (first_target targets.now) ++ rest.now) }
 {
     let target = first_target(targets);
-    let mut bits = Bits::from_slice(alloc, &target[..count.min(target.len())])?;
-    bits.extend_from_slice(rest)?;
+    let mut bits = target.front(count.min(target.len())).to_bits(alloc)?;
+    bits.extend_from_part(rest)?;
     Ok(bits)
 }
 
@@ -112,7 +108,7 @@ fn read_whole(
     ensures err { IfErr result (λ fault. IsEntryRefusal fault (value_at before.now.items entry.now.length 0 reader.old)) }
 {
     let bits = read_value(reader, before, entry.length, 0)?;
-    Ok(Bits::from_slice(alloc, bits)?)
+    Ok(bits.to_bits(alloc)?)
 }
 
 /// A value whose index among the targets is sent.
@@ -121,7 +117,7 @@ fn read_mapped(alloc: Global, entry: &Entry, reader: &mut BitReader<'_>) -> Resu
     ensures err { IfErr result (λ fault. IsEntryRefusal fault (target_at entry.now.targets reader.old)) }
 {
     let target = read_target(reader, entry.targets.as_slice())?;
-    Ok(Bits::from_slice(alloc, target.as_slice())?)
+    Ok(target.copy_item(alloc)?)
 }
 
 /// A value whose first bits are those of the target.
@@ -136,7 +132,7 @@ fn read_last_bits(
 {
     let count = msb_bits(entry.operator);
     let rest = read_value(reader, before, entry.length, count)?;
-    Ok(joined(alloc, entry.targets.as_slice(), count, rest)?)
+    Ok(behind_target(alloc, entry.targets.as_slice(), count, &rest)?)
 }
 
 /// The value of an entry's field, where `before` are the fields that are restored so far.

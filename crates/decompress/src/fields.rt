@@ -69,14 +69,6 @@ fn read_fields(
     Ok(fields)
 }
 
-/// The rule's entries.
-fn entries_of(rule: &Admitted) -> &[Entry]
-    ensures entries { result.now ≡ rule.now.entries }
-    ensures admitted { IsAdmitted rule.now }
-{
-    rule.rule().entries.as_slice()
-}
-
 fn read_rule(
     alloc: Global,
     rule: &Admitted,
@@ -88,7 +80,7 @@ fn read_rule(
     ensures admitted { IsAdmitted rule.now }
     ensures err { IfErr result (λ fault. IsRefusal fault (restore_at rule.now iids direction reader.old)) }
 {
-    read_fields(alloc, entries_of(rule), iids, direction, reader)
+    read_fields(alloc, rule.entries(), iids, direction, reader)
 }
 
 /// Reads the fields whose residue stands in the bits from the place `from` on: the value of each

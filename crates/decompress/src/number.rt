@@ -3,15 +3,15 @@
 ghost use Rattle.std.specs.Prelude.{ℕ, ◌≡◌, ◌^◌, ◌<◌, ◌≤◌, Ok, Err, IfOk, IfErr};
 ghost use Rattle.decompress.specs.Reading.{byte_size_from, counted_at, long_size_at, minimal, size_at, size_from, taken_at};
 
-use schc_bits::BitReader;
+use schc_bits::{BitReader, Part};
 use schc_ids::ResidueFault;
 
 /// The next `count` bits.
-pub fn read_bits<'a>(reader: &mut BitReader<'a>, count: usize) -> Result<&'a [bool], ResidueFault>
-    ensures ok { IfOk result (λ bits. taken_at count reader.old ≡ Ok (bits.now, reader.new)) }
+pub fn read_bits<'a>(reader: &mut BitReader<'a>, count: usize) -> Result<Part<'a>, ResidueFault>
+    ensures ok { IfOk result (λ bits. taken_at count reader.old ≡ Ok (bits, reader.new)) }
     ensures err { IfErr result (λ fault. taken_at count reader.old ≡ Err fault) }
 {
-    match reader.take_slice(count) {
+    match reader.take_part(count) {
         Some(bits) => Ok(bits),
         None => Err(ResidueFault::Short),
     }
@@ -44,19 +44,19 @@ fn read_long_size(reader: &mut BitReader<'_>) -> Result<u64, ResidueFault>
 }
 
 /// A size from 15 on, which begins with this byte after four ones.
-fn read_from_byte(reader: &mut BitReader<'_>, size: u64) -> Result<u64, ResidueFault>
-    requires { size < 2 ^ 8 }
-    ensures ok { IfOk result (λ whole. byte_size_from size reader.old ≡ Ok (whole, reader.new)) }
+fn read_from_byte(reader: &mut BitReader<'_>, byte: u64) -> Result<u64, ResidueFault>
+    requires { byte < 2 ^ 8 }
+    ensures ok { IfOk result (λ whole. byte_size_from byte reader.old ≡ Ok (whole, reader.new)) }
     ensures below { IfOk result (λ whole. whole < 2 ^ 16) }
-    ensures err { IfErr result (λ fault. byte_size_from size reader.old ≡ Err fault) }
+    ensures err { IfErr result (λ fault. byte_size_from byte reader.old ≡ Err fault) }
 {
-    if size == 255 {
+    if byte == 255 {
         return read_long_size(reader);
     }
-    if size < 15 {
+    if byte < 15 {
         return Err(ResidueFault::NonMinimalSize);
     }
-    Ok(size)
+    Ok(byte)
 }
 
 /// A size in bytes, in its shortest form (RFC 8724, section 7.4.2).

@@ -14,61 +14,55 @@ ghost use Rattle.rule_model.specs.Tests.{
   agrees,
 };
 
-use rule_model::{Action, Computed, Entry, Length, Operator};
-use schc_bits::{Bits, number_of, same_items};
+use rule_model::{Action, Computed, Entry, Length, Operator, same_bits};
+use schc_bits::{Bits, Part};
 use schc_ids::{FieldName, Iids};
 
-fn same_bits(these: &[bool], those: &[bool]) -> bool
-    ensures { result ≡ same_bits these.now those.now }
-{
-    same_items(these, those)
-}
-
 /// Whether the value is the first target.
-fn is_first(targets: &[Bits], value: &[bool]) -> bool
+fn is_first(targets: &[Bits], value: &Part<'_>) -> bool
     ensures { result ≡ option_map_or (λ target. same_bits target value.now) (slice_get targets.now 0) false }
 {
     match targets {
-        [target, ..] => same_bits(target.as_slice(), value),
+        [target, ..] => same_bits(&target.as_part(), value),
         [] => false,
     }
 }
 
 /// The first bits, this many of them.
-fn front_of(bits: &[bool], count: usize) -> &[bool]
-    ensures { result.now ≡ take count bits.now }
+fn front_of<'a>(bits: &Part<'a>, count: usize) -> Part<'a>
+    ensures { result ≡ take count bits.now }
 {
-    &bits[..count.min(bits.len())]
+    bits.front(count.min(bits.len()))
 }
 
 /// Whether the value has at least this many bits, and its first ones are those of the target.
-fn begins_as(count: usize, value: &[bool], target: &[bool]) -> bool
+fn begins_as(count: usize, value: &Part<'_>, target: &Part<'_>) -> bool
     ensures { result ≡ begins_as count value.now target.now }
 {
-    count <= value.len() && same_bits(front_of(target, count), front_of(value, count))
+    count <= value.len() && same_bits(&front_of(target, count), &front_of(value, count))
 }
 
 /// Whether the first bits of the value are those of the first target.
-fn begins_as_first(count: usize, targets: &[Bits], value: &[bool]) -> bool
+fn begins_as_first(count: usize, targets: &[Bits], value: &Part<'_>) -> bool
     ensures { result ≡ option_map_or (begins_as count value.now) (slice_get targets.now 0) false }
 {
     match targets {
-        [target, ..] => begins_as(count, value, target.as_slice()),
+        [target, ..] => begins_as(count, value, &target.as_part()),
         [] => false,
     }
 }
 
 /// Whether the value is one of the targets.
-fn is_one_of(targets: &[Bits], value: &[bool]) -> bool
+fn is_one_of(targets: &[Bits], value: &Part<'_>) -> bool
     ensures { result ≡ list_any (λ target. same_bits target value.now) targets.now }
 {
     targets
         .iter()
-        .any(|target| same_bits(target.as_slice(), value))
+        .any(|target| same_bits(&target.as_part(), value))
 }
 
 /// Whether the matching operator holds of the value (RFC 8724 section 7.3).
-pub fn operator_holds(operator: Operator, targets: &[Bits], value: &[bool]) -> bool
+pub fn operator_holds(operator: Operator, targets: &[Bits], value: &Part<'_>) -> bool
     ensures { result ≡ operator_holds operator targets.now value.now }
 {
     match operator {
@@ -95,7 +89,7 @@ fn is_number(value: &Bits, width: usize, number: u64) -> bool
     requires fits { number < 2 ^ width }
     ensures { result ≡ same_bits (number_bits width number) value.now }
 {
-    value.len() == width && number_of(value.as_slice()) == number
+    value.len() == width && value.as_part().number() == number
 }
 
 /// What is computed over the packet for the field.
@@ -136,6 +130,6 @@ pub fn agrees(iids: Iids, computed: &Computed, entry: &Entry, value: &Bits) -> b
     ensures { result ≡ agrees iids computed.now entry.now value.now }
 {
     length_holds(entry.name, entry.length, value)
-        && operator_holds(entry.operator, entry.targets.as_slice(), value.as_slice())
+        && operator_holds(entry.operator, entry.targets.as_slice(), &value.as_part())
         && restored_holds(iids, computed, entry.name, entry.action, value)
 }

@@ -1,21 +1,18 @@
 //! The fields of a packet against the entries of a rule.
 
-ghost use Rattle.std.specs.Prelude.{◌≡◌, ◌↔◌, ◌||◌, not, IsTrue};
-ghost use Rattle.std.specs.List.{list_all};
+ghost use Rattle.std.specs.Prelude.{◌≡◌, ◌↔◌, ◌&&◌, IsTrue, length, filter};
+ghost use Rattle.std.specs.List.{list_all, enumerate_from};
+ghost use Rattle.std.specs.Option.{option_copied};
 ghost use Rattle.schc_ids.specs.Ends.{covers};
 ghost use Rattle.rule_model.specs.Cover.{covered, field_of};
 ghost use Rattle.rule_model.specs.Matches.{Matches};
 ghost use Rattle.rule_model.specs.Residue.{same_field};
-ghost use Rattle.rule_model.specs.Tests.{
-  agrees,
-  has_entry,
-  has_value,
-  entries_agree,
-  does_match,
-};
+ghost use Rattle.rule_model.specs.Tests.{agrees, does_match};
+ghost use Rattle.matching.specs.Walk.{found_value, value_near, entry_holds, field_holds, walk_holds};
 
 use crate::agreement::agrees;
 use rule_model::{Admitted, Computed, Entry, FieldValue, Fields, Rule};
+use schc_bits::Bits;
 use schc_ids::{Direction, FieldAt, Iids, covers};
 
 /// Whether the entry is used in the direction.
@@ -25,89 +22,126 @@ fn is_used(entry: &Entry, direction: Direction) -> bool
     covers(entry.direction, direction)
 }
 
-/// Whether the entry is of the field.
-fn is_of(entry: &Entry, at: FieldAt) -> bool
-    ensures { result ≡ same_field (field_of entry.now) at }
-{
-    entry.name.same(at.name) && entry.position == at.position
-}
-
-/// Whether an entry that is used in the direction is of the field.
-fn has_entry(rule: &Rule, direction: Direction, at: FieldAt) -> bool
-    ensures { result ≡ has_entry (covered rule.now direction) at }
+/// How many entries are used in the direction.
+fn used_count(rule: &Rule, direction: Direction) -> usize
+    ensures { result ≡ length (covered rule.now direction) }
 {
     rule.entries
         .as_slice()
         .iter()
         .filter(|entry| is_used(entry, direction))
-        .any(|entry| is_of(entry, at))
+        .count()
 }
 
-/// Whether each field has an entry that is used in the direction.
-fn fields_have_entries(rule: &Rule, direction: Direction, fields: &[FieldValue]) -> bool
-    ensures { result ≡ list_all (λ f. has_entry (covered rule.now direction) f.at) fields.now }
+fn is_same(field: FieldAt, other: FieldAt) -> bool
+    ensures { result ≡ same_field field other }
 {
-    fields
-        .iter()
-        .all(|field| has_entry(rule, direction, field.at))
+    field.name.same(other.name) && field.position == other.position
 }
 
-/// Whether a field is the entry's.
-fn has_value(fields: &[FieldValue], entry: &Entry) -> bool
-    ensures { result ≡ has_value fields.now entry.now }
+/// The value of the first field of this name and position.
+fn found_value(fields: &[FieldValue], at: FieldAt) -> Option<&Bits>
+    ensures { option_copied result ≡ found_value fields.now at }
 {
-    fields.iter().any(|field| is_of(entry, field.at))
+    for field in fields {
+        if is_same(at, field.at) {
+            return Some(&field.value);
+        }
+    }
+    None
 }
 
-/// Whether each entry that is used in the direction has a field.
-fn entries_have_values(rule: &Rule, direction: Direction, fields: &[FieldValue]) -> bool
-    ensures { result ≡ list_all (has_value fields.now) (covered rule.now direction) }
+/// The value of a field of this name and position. Rules mostly list entries in packet order, so it
+/// is looked for first at the place `near`.
+fn value_near(fields: &[FieldValue], near: usize, at: FieldAt) -> Option<&Bits>
+    ensures { option_copied result ≡ value_near fields.now near at }
 {
-    rule.entries
-        .as_slice()
-        .iter()
-        .filter(|entry| is_used(entry, direction))
-        .all(|entry| has_value(fields, entry))
+    match fields.get(near) {
+        Some(field) => {
+            if is_same(at, field.at) {
+                Some(&field.value)
+            } else {
+                found_value(fields, at)
+            }
+        }
+        None => found_value(fields, at),
+    }
 }
 
-/// Whether the entry is of another field, or agrees with the value.
-fn agrees_where_of(iids: Iids, computed: &Computed, field: &FieldValue, entry: &Entry) -> bool
-    ensures { result ≡ (not (same_field (field_of entry.now) field.now.at) || agrees iids computed.now entry.now field.now.value) }
-{
-    !is_of(entry, field.at) || agrees(iids, computed, entry, &field.value)
-}
-
-/// Whether each entry of the field that is used in the direction agrees with its value.
-fn entries_agree(
-    rule: &Rule,
+/// Whether the entry has a value among the fields, and agrees with it.
+fn entry_holds(
     iids: Iids,
-    direction: Direction,
-    computed: &Computed,
-    field: &FieldValue,
-) -> bool
-    ensures { result ≡ entries_agree iids computed.now (covered rule.now direction) field.now }
-{
-    rule.entries
-        .as_slice()
-        .iter()
-        .filter(|entry| is_used(entry, direction))
-        .all(|entry| agrees_where_of(iids, computed, field, entry))
-}
-
-/// Whether each entry that is used in the direction agrees with the value of its field.
-fn values_agree(
-    rule: &Rule,
-    iids: Iids,
-    direction: Direction,
     computed: &Computed,
     fields: &[FieldValue],
+    near: usize,
+    entry: &Entry,
 ) -> bool
-    ensures { result ≡ list_all (entries_agree iids computed.now (covered rule.now direction)) fields.now }
+    ensures { result ≡ entry_holds iids computed.now fields.now near entry.now }
 {
-    fields.iter().all(|field| entries_agree(rule, iids, direction, computed, field))
+    match value_near(fields, near, entry.field()) {
+        Some(value) => agrees(iids, computed, entry, value),
+        None => false,
+    }
 }
 
-/// Whether the rule matches the fields, for any rule.
+/// Whether each entry that is used in the direction holds.
+fn entries_hold(
+    rule: &Rule,
+    iids: Iids,
+    direction: Direction,
+    fields: &[FieldValue],
+    computed: &Computed,
+) -> bool
+    ensures { result ≡ list_all (λ p. entry_holds iids computed.now fields.now p.0 p.1) (enumerate_from 0 (covered rule.now direction)) }
+{
+    rule.entries
+        .as_slice()
+        .iter()
+        .filter(|entry| is_used(entry, direction))
+        .enumerate()
+        .all(|(near, entry)| entry_holds(iids, computed, fields, near, entry))
+}
+
+/// Whether the entry is of the field and agrees with its value.
+fn is_agreeing(iids: Iids, computed: &Computed, entry: &Entry, field: &FieldValue) -> bool
+    ensures { result ≡ (same_field (field_of entry.now) field.now.at && agrees iids computed.now entry.now field.now.value) }
+{
+    is_same(entry.field(), field.at) && agrees(iids, computed, entry, &field.value)
+}
+
+/// Whether the field has an entry that is used in the direction and agrees with its value.
+fn field_holds(
+    rule: &Rule,
+    iids: Iids,
+    direction: Direction,
+    field: &FieldValue,
+    computed: &Computed,
+) -> bool
+    ensures { result ≡ field_holds iids computed.now (covered rule.now direction) field.now }
+{
+    rule.entries
+        .as_slice()
+        .iter()
+        .filter(|entry| is_used(entry, direction))
+        .any(|entry| is_agreeing(iids, computed, entry, field))
+}
+
+/// Whether each field holds.
+fn fields_hold(
+    rule: &Rule,
+    iids: Iids,
+    direction: Direction,
+    fields: &[FieldValue],
+    computed: &Computed,
+) -> bool
+    ensures { result ≡ list_all (field_holds iids computed.now (covered rule.now direction)) fields.now }
+{
+    fields.iter().all(|field| field_holds(rule, iids, direction, field, computed))
+}
+
+/// Whether the rule matches the fields, where no two entries that are used in the direction are of
+/// one field: each entry is looked up once. Only where a field is listed twice, or one has no
+/// entry, is each field looked up too.
 fn rule_matches(
     rule: &Rule,
     iids: Iids,
@@ -115,12 +149,13 @@ fn rule_matches(
     fields: &Fields,
     computed: &Computed,
 ) -> bool
-    ensures { result ≡ does_match rule.now iids direction fields.now.items computed.now }
+    ensures { result ≡ walk_holds rule.now iids direction fields.now.items computed.now }
 {
     let fields = fields.as_slice();
-    fields_have_entries(rule, direction, fields)
-        && entries_have_values(rule, direction, fields)
-        && values_agree(rule, iids, direction, computed, fields)
+    let used = used_count(rule, direction);
+    used <= fields.len()
+        && entries_hold(rule, iids, direction, fields, computed)
+        && (fields.len() == used || fields_hold(rule, iids, direction, fields, computed))
 }
 
 /// Whether the rule matches the fields of a packet that goes in the direction (RFC 8724 section

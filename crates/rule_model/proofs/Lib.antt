@@ -4,3 +4,4 @@ pub mod SizedLemmas
 pub mod FirstLemmas
 pub mod EntryRowsLemmas
 pub mod TestLemmas
+pub mod PresenceLemmas

@@ -9,3 +9,4 @@ pub mod SplitData
 pub mod RawData
 pub mod FindingNames
 pub mod Tests
+pub mod Presence

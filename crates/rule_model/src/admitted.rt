@@ -5,7 +5,7 @@ ghost use Rattle.rule_model.specs.Cover.{dropped_fields, serves, stack_of};
 ghost use Rattle.rule_model.specs.Findings.{IsAdmitted};
 
 use crate::cover::{dropped_fields, serves, stack_of};
-use crate::rule::Rule;
+use crate::rule::{Entry, Rule};
 use schc_bits::{CopyItem, Same};
 use schc_ids::{Direction, FieldAt, Stack};
 use std::alloc::{AllocError, Global};
@@ -16,6 +16,8 @@ use std::marker::Model;
 pub struct Admitted {
     rule: Rule,
     stack: Stack,
+    serves_up: bool,
+    serves_down: bool,
     dropped_up: Vec<FieldAt>,
     dropped_down: Vec<FieldAt>,
 }
@@ -28,7 +30,7 @@ impl Model for Admitted {
 
     ghost view = { λ a. a.rule };
 
-    ghost invariant = { λ a. KeepsWhatFollows a.rule a.stack a.dropped_up.items a.dropped_down.items };
+    ghost invariant = { λ a. KeepsWhatFollows a.rule a.stack a.serves_up a.serves_down a.dropped_up.items a.dropped_down.items };
 }
 
 impl Admitted {
@@ -41,11 +43,15 @@ impl Admitted {
         ensures { IfOk result (λ admitted. admitted ≡ rule) }
     {
         let stack = stack_of(&rule);
+        let serves_up = serves(&rule, Direction::Up);
+        let serves_down = serves(&rule, Direction::Down);
         let dropped_up = dropped_fields(alloc, &rule, Direction::Up)?;
         let dropped_down = dropped_fields(alloc, &rule, Direction::Down)?;
         Ok(Admitted {
             rule,
             stack,
+            serves_up,
+            serves_down,
             dropped_up,
             dropped_down,
         })
@@ -59,6 +65,14 @@ impl Admitted {
         &self.rule
     }
 
+    /// The rule's entries, in the order in which residues are sent.
+    pub fn entries(&self) -> &[Entry]
+        ensures entries { result.now ≡ self.now.entries }
+        ensures admitted { IsAdmitted self.now }
+    {
+        self.rule.entries.as_slice()
+    }
+
     /// The rule's stack.
     pub fn stack(&self) -> Stack
         ensures { result ≡ stack_of self.now }
@@ -70,7 +84,10 @@ impl Admitted {
     pub fn serves(&self, direction: Direction) -> bool
         ensures { result ≡ serves self.now direction }
     {
-        serves(&self.rule, direction)
+        match direction {
+            Direction::Up => self.serves_up,
+            Direction::Down => self.serves_down,
+        }
     }
 
     /// The fields whose value the other end may restore to another one: those of ignored entries

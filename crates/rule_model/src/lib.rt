@@ -6,6 +6,7 @@ mod cover;
 mod finding;
 mod lookup;
 mod parts;
+mod presence;
 mod raw;
 mod rule;
 mod value;
@@ -15,8 +16,9 @@ pub use cover::{
     computes_checksum, dropped_fields, has_layer, is_compute, is_lossy, serves, stack_of,
 };
 pub use finding::{Finding, Row};
-pub use lookup::{index_width, value_of};
+pub use lookup::{index_width, msb_bits, same_bits, value_of};
 pub use parts::{JoinFault, Split, SplitFault};
+pub use presence::{at_name, bits_of, is_at, presence_fault, value_in};
 pub use raw::{DeviceLine, RawEdition, RawRule};
 pub use rule::{Action, Entries, Entry, Length, Operator, Rule, Targets};
 pub use value::{Computed, FieldValue, Fields};

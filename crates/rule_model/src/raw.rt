@@ -37,6 +37,12 @@ pub struct DeviceLine {
     pub params: EndParams,
 }
 
+impl CopyItem for DeviceLine {
+    fn copy_item(&self, _alloc: Global) -> Result<DeviceLine, AllocError> {
+        Ok(*self)
+    }
+}
+
 impl CopyItem for RawRule {
     fn copy_item(&self, alloc: Global) -> Result<RawRule, AllocError> {
         let rule = self.rule.copy_item(alloc)?;

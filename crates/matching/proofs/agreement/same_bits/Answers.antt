@@ -1,5 +1,0 @@
-use Rattle.rule_model.proofs.ResidueLemmas.{same_bits-is}
-use Rattle.matching.proofs.agreement.same_bits.Goals as goal
-
-pub returns : goal.returns
-returns c = same_bits-is _ _ _ c.same_items.ensures

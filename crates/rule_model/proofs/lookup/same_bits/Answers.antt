@@ -1,0 +1,5 @@
+use Rattle.rule_model.proofs.ResidueLemmas.{same_bits-is}
+use Rattle.rule_model.proofs.lookup.same_bits.Goals as goal
+
+pub returns : goal.returns
+returns c = same_bits-is _ _ _ c.same.ensures
