@@ -7,7 +7,10 @@ pub mod SplitLemmas
 pub mod RankLemmas
 pub mod FieldsLemmas
 pub mod JoinLemmas
-pub mod PresenceLemmas
+pub mod JoinRefusalLemmas
+pub mod BehindLemmas
+pub mod StopLemmas
+pub mod StopAgainLemmas
 pub mod SizeLemmas
 pub mod WriteLemmas
 pub mod BytesLemmas

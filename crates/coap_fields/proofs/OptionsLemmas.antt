@@ -64,7 +64,7 @@ placed-next front before place size o (Ok read) =
     let place_after : ℕ = next_place before place o.number in
     rw (append_assoc front (option_field o.number place_after o.value ∷ []) (option_fields o.number place_after read.0))
 
-not_marker : (a b : ℕ) → a < 15 → b < 15 → ((16 * a + b) == 255) ≡ false
+pub not_marker : (a b : ℕ) → a < 15 → b < 15 → ((16 * a + b) == 255) ≡ false
 not_marker a b h k = ne_eqb (16 * a + b) 255 (λ e. absurd (omega (arith, e)))
 
 -- what was spelled is read

@@ -3,13 +3,9 @@ use Rattle.std.specs.Prelude.{ℕ, ◌≡◌, ◌-◌, Bool, List, [], ◌∷◌
 use Rattle.schc_bits.specs.Bits.{number_bits, octets}
 use Rattle.schc_ids.specs.declared.names.FieldName.{FieldName}
 use Rattle.schc_ids.specs.declared.names.FieldName.TheVariants.{CoapVersion, CoapType, CoapTkl, CoapCode, CoapMid, CoapToken, CoapOption}
-use Rattle.schc_ids.specs.declared.names.FieldAt.{FieldAt}
+pub use Rattle.rule_model.specs.Presence.{at_name}
 use Rattle.rule_model.specs.declared.value.FieldValue.{FieldValue}
 use Rattle.coap_fields.specs.Message.{OptionData, Message, next_place, IsMessage, spelled}
-
--- the field of this name; every field but an option has position 1
-abbrev pub at_name : FieldName → FieldAt
-at_name name = record { name = name; position = 1 }
 
 abbrev pub field : FieldName → List Bool → FieldValue
 field name value = record { at = at_name name; value = value }

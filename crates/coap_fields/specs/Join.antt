@@ -1,44 +1,16 @@
 -- Why fields make no CoAP message, and the message that they make.
-use Rattle.std.specs.Prelude.{ℕ, ◌*◌, ◌%◌, ◌==◌, Bool, true, false, not, ◌&&◌, ◌||◌, if◌then◌else◌, List, [], ◌∷◌, ◌++◌, length, nat_lt, nat_le, Option, Some, None, is_none, is_some, unwrap_or}
+use Rattle.std.specs.Prelude.{ℕ, ◌*◌, ◌%◌, ◌==◌, Bool, true, false, not, ◌&&◌, ◌||◌, List, [], ◌∷◌, ◌++◌, length, nat_lt, nat_le, Option, is_none, is_some}
 use Rattle.schc_bits.specs.Bits.{bits_value, bytes_of}
 use Rattle.schc_ids.specs.declared.names.FieldName.{FieldName}
 use Rattle.schc_ids.specs.declared.names.FieldName.TheVariants.{CoapVersion, CoapType, CoapTkl, CoapCode, CoapMid, CoapToken, CoapOption}
 use Rattle.schc_ids.specs.declared.names.FieldAt.{FieldAt}
-use Rattle.schc_ids.specs.Names.{same_name, width_of, rank_of, coap_fields}
+use Rattle.schc_ids.specs.Names.{rank_of, coap_fields}
 use Rattle.rule_model.specs.declared.value.FieldValue.{FieldValue}
 use Rattle.rule_model.specs.declared.parts.JoinFault.{JoinFault}
 use Rattle.rule_model.specs.declared.parts.JoinFault.TheVariants.{FieldAbsent, FieldWrong}
 use Rattle.rule_model.specs.First.{first_held}
 use Rattle.coap_fields.specs.Message.{OptionData, Message, next_place, spelled}
-use Rattle.coap_fields.specs.Fields.{at_name}
-
--- whether this is the field of the name, which has position 1
-abbrev pub is_at : FieldAt → FieldName → Bool
-is_at at name = same_name at.name name && (at.position == 1)
-
--- the value of the first field of the name; none where it isn't among the fields
-abbrev pub value_in : List FieldValue → FieldName → Option (List Bool)
-value_in [] name = None
-value_in (f ∷ fields) name = if is_at f.at name then Some f.value else value_in fields name
-
-abbrev pub value_of : List FieldValue → FieldName → List Bool
-value_of fields name = unwrap_or (value_in fields name) []
-
--- the bits of a field with a fixed width
-abbrev pub bits_of : FieldName → ℕ
-bits_of name = unwrap_or (width_of name) 0
-
--- the field is among the fields, and has its width
-abbrev pub presence_of : List FieldValue → FieldName → List (Bool × JoinFault)
-presence_of fields name =
-    (is_none (value_in fields name), FieldAbsent (at_name name))
-    ∷ (not (length (value_of fields name) == bits_of name), FieldWrong (at_name name))
-    ∷ []
-
--- each field of these names, in their order
-abbrev pub presence : List FieldValue → List FieldName → List (Bool × JoinFault)
-presence fields [] = []
-presence fields (name ∷ names) = presence_of fields name ++ presence fields names
+pub use Rattle.rule_model.specs.Presence.{at_name, is_at, value_in, value_of, bits_of, presence_of, presence}
 
 -- a message can have the field: an option at a position from 1 to 65,535, another field of CoAP at position 1
 abbrev pub is_possible : FieldName → ℕ → Bool

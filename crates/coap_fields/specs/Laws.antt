@@ -1,5 +1,5 @@
 -- How splitting and joining belong together.
-use Rattle.std.specs.Prelude.{ℕ, ◌≡◌, ◌↔◌, List, drop, Ok, None}
+use Rattle.std.specs.Prelude.{ℕ, ◌≡◌, ◌↔◌, ◌≤◌, List, length, drop, Ok, Err, None}
 use Rattle.schc_bits.specs.Bits.{AreBytes}
 use Rattle.rule_model.specs.declared.value.FieldValue.{FieldValue}
 use Rattle.rule_model.specs.SplitData.{SplitData}
@@ -7,6 +7,7 @@ use Rattle.coap_fields.specs.Message.{Message, IsMessage, spelled}
 use Rattle.coap_fields.specs.Fields.{MessageOf}
 use Rattle.coap_fields.specs.Facts.{AreCoapFields}
 use Rattle.coap_fields.specs.Reading.{message_in}
+use Rattle.coap_fields.specs.Stops.{StopsAt}
 use Rattle.coap_fields.specs.Join.{join_refusal, message_from}
 
 -- messages with one spelling are one
@@ -45,3 +46,11 @@ HaveOnePacket =
 -- what holds of the fields of each message
 abbrev pub HasCoapFields : Type 0
 HasCoapFields = (bytes : List ℕ) (fields : List FieldValue) (from : ℕ) → MessageOf bytes fields from → AreCoapFields fields
+
+-- no message is read, for this place, exactly where the bytes stop to be one there
+abbrev pub StopsExactly : Type 0
+StopsExactly = (bytes : List ℕ) (stop : ℕ) → AreBytes bytes → (message_in bytes ≡ Err stop) ↔ StopsAt bytes stop
+
+-- the place is at most the number of the bytes
+abbrev pub StopsWithin : Type 0
+StopsWithin = (bytes : List ℕ) (stop : ℕ) → StopsAt bytes stop → stop ≤ length bytes

@@ -1,6 +1,7 @@
 pub mod Message
 pub mod Fields
 pub mod Reading
+pub mod Stops
 pub mod Join
 pub mod Placed
 pub mod Facts

@@ -1,5 +1,6 @@
 -- A message from its bytes, or the byte at which it stops to be one: RFC 7252, section 3.
-use Rattle.std.specs.Prelude.{ℕ, ◌≡◌, ◌+◌, ◌-◌, ◌*◌, ◌/◌, ◌%◌, ◌==◌, Bool, not, ◌||◌, nat_lt, if◌then◌else◌, zero, suc, List, [], ◌∷◌, length, take, drop, Option, Some, None, Result, Ok, Err}
+use Rattle.std.specs.Prelude.{ℕ, ◌≡◌, ◌+◌, ◌-◌, ◌*◌, ◌/◌, ◌%◌, ◌==◌, Bool, not, ◌||◌, nat_lt, if◌then◌else◌, zero, suc, List, [], ◌∷◌, ◌++◌, length, take, drop, Option, Some, None, Result, Ok, Err}
+use Rattle.rule_model.specs.declared.value.FieldValue.{FieldValue}
 use Rattle.rule_model.specs.declared.parts.SplitFault.{SplitFault}
 use Rattle.rule_model.specs.declared.parts.SplitFault.TheVariants.{NotCoap, Memory}
 use Rattle.rule_model.specs.SplitData.{SplitData}
@@ -116,6 +117,11 @@ split_of size (Ok m) = Ok (record { fields = fields_of_message m; payload_from =
 -- reading goes on
 unfoldable pub message_in : List ℕ → Result SplitData ℕ
 message_in bytes = split_of (length bytes) (read_message bytes)
+
+-- the same fields behind others
+abbrev pub behind : List FieldValue → Result SplitData ℕ → Result SplitData ℕ
+behind front (Err stop) = Err stop
+behind front (Ok split) = Ok (record { fields = front ++ split.fields; payload_from = split.payload_from })
 
 -- want of memory, or no message is read, for this place; no other fault
 abbrev pub IsRefusal : SplitFault → Result SplitData ℕ → Type 0

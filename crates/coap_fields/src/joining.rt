@@ -5,7 +5,7 @@ ghost use Rattle.schc_bits.specs.Bits.{AreBytes};
 ghost use Rattle.coap_fields.specs.Fields.{MessageOf};
 ghost use Rattle.coap_fields.specs.Join.{join_refusal, message_from};
 
-use crate::refusing::join_refusal;
+use crate::join_conditions::join_refusal;
 use crate::writing::written;
 use rule_model::{Fields, JoinFault};
 use schc_bits::Octets;
@@ -25,7 +25,7 @@ pub fn join(alloc: Global, fields: &Fields, payload: &[u8]) -> Result<Octets, Jo
         MessageOf message.items fields.now.items (length message.items - length payload.now)) }
     ensures payload { IfOk result (λ message. drop (length message.items - length payload.now) message.items ≡ payload.now) }
     ensures bytes { IfOk result (λ message. AreBytes message.items) }
-    ensures made { IfOk result (λ message. message.items ≡ message_from fields.now.items payload.now) }
+    ensures spelled { IfOk result (λ message. message.items ≡ message_from fields.now.items payload.now) }
     ensures ok { IfOk result (λ _. join_refusal fields.now.items ≡ None) }
     ensures err { IfErr result (λ fault. (fault ≡ JoinFault.Memory) ⊎ (join_refusal fields.now.items ≡ Some fault)) }
 {

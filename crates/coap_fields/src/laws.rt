@@ -1,7 +1,7 @@
 //! How splitting and joining belong together, as statements over all messages and fields.
 
 ghost use Rattle.coap_fields.specs.Counting.{AreSpellableExactly, CountsPositions};
-ghost use Rattle.coap_fields.specs.Laws.{HasCoapFields, IsSpelledOnce, ReadsExactly, HasOneSplit, JoinsAgain, MakesAgain, HaveOnePacket};
+ghost use Rattle.coap_fields.specs.Laws.{HasCoapFields, IsSpelledOnce, ReadsExactly, StopsExactly, StopsWithin, HasOneSplit, JoinsAgain, MakesAgain, HaveOnePacket};
 
 /// Messages with one spelling are one.
 pub fn spelled_once()
@@ -12,6 +12,15 @@ pub fn spelled_once()
 /// payload.
 pub fn split_reads_exactly()
     ensures { ReadsExactly }
+{}
+
+/// No message is read, for this place, exactly where the bytes stop to be one there: the first byte
+/// for another version than 1 or a token of more than 8 bytes, the first byte of an option for four bits of 15,
+/// a number above 65,535, or one that stands there for the 65,536th time, and the end where bytes
+/// lack or nothing follows the marker. It is at most their number.
+pub fn stops_exactly()
+    ensures exactly { StopsExactly }
+    ensures within { StopsWithin }
 {}
 
 /// Splitting what was joined gives the same fields and payload: bytes have one list of fields and

@@ -1,16 +1,16 @@
 //! CoAP messages (RFC 7252) as fields and back.
 #![tactic(auto)]
 
+mod join_conditions;
 mod joining;
 pub mod laws;
 mod options;
-mod refusing;
 mod splitting;
 #[cfg(test)]
 mod tests;
 mod writing;
 
+pub use join_conditions::message_fault;
 pub use joining::join;
-pub use refusing::message_fault;
 pub use rule_model::{JoinFault, Split, SplitFault};
-pub use splitting::split;
+pub use splitting::{split, split_onto};

@@ -1,6 +1,6 @@
 //! The options of a message, read one by one (RFC 7252 section 3.1).
 
-ghost use Rattle.std.specs.Prelude.{ℕ, ◌≡◌, ◌+◌, ◌-◌, ◌*◌, ◌≤◌, ◌<◌, ◌++◌, [], ◌∷◌, List, length, Ok, Err, IfOk, IfErr, IfSome, OnOk, Result};
+ghost use Rattle.std.specs.Prelude.{ℕ, ◌≡◌, ◌+◌, ◌-◌, ◌*◌, ◌≤◌, ◌<◌, ◌++◌, [], ◌∷◌, List, length, take, Ok, Err, IfOk, IfErr, IfSome, OnOk, OnErr, Result};
 ghost use Rattle.std.specs.Option.{option_map};
 ghost use Rattle.coap_fields.specs.Message.{OptionData, next_place};
 ghost use Rattle.coap_fields.specs.Fields.{option_field};
@@ -175,7 +175,8 @@ fn push_option(
     position: u16,
     value: &[u8],
 ) -> Result<(), AllocError>
-    ensures { OnOk result (fields.new.items ≡ fields.old.items ++ option_field number position value.now ∷ []) }
+    ensures err { OnErr result (fields.new.items ≡ fields.old.items) }
+    ensures ok { OnOk result (fields.new.items ≡ fields.old.items ++ option_field number position value.now ∷ []) }
 {
     let value = Bits::from_bytes(alloc, value)?;
     fields.push(FieldValue {
@@ -201,7 +202,7 @@ fn payload_from(size: usize, bytes: &[u8]) -> Result<usize, SplitFault>
 }
 
 /// Puts the fields of the options last that the bytes after the token of a message of `size` bytes
-/// spell, and gives the byte at which the payload begins.
+/// spell, and gives the byte at which the payload begins. After a refusal some of them may stand there.
 pub fn push_options(
     alloc: Global,
     size: usize,
@@ -211,7 +212,8 @@ pub fn push_options(
     requires { length bytes.now ≤ size }
     ensures ok { IfOk result (λ from. placed fields.old.items 0 0 size (options_at size 0 0 bytes.now)
         ≡ Ok (record { fields = fields.new.items; payload_from = from })) }
-    ensures err { IfErr result (λ fault. IsRefusal fault (placed fields.old.items 0 0 size (options_at size 0 0 bytes.now))) }
+    ensures refused { IfErr result (λ fault. IsRefusal fault (placed fields.old.items 0 0 size (options_at size 0 0 bytes.now))) }
+    ensures err { OnErr result (take (length fields.old.items) fields.new.items ≡ fields.old.items) }
 {
     let mut last = Last {
         number: 0,

@@ -1,14 +1,15 @@
 //! A message's fields.
 
-ghost use Rattle.std.specs.Prelude.{ℕ, ◌≡◌, ◌+◌, ◌-◌, ◌*◌, ◌/◌, ◌%◌, ◌^◌, ◌≤◌, ◌<◌, ◌++◌, [], ◌∷◌, length, Ok, Err, IfOk, IfErr, OnOk};
-ghost use Rattle.schc_bits.specs.Bits.{number_bits};
+ghost use Rattle.std.specs.Prelude.{ℕ, ◌≡◌, ◌+◌, ◌-◌, ◌*◌, ◌/◌, ◌%◌, ◌^◌, ◌≤◌, ◌<◌, ◌++◌, [], ◌∷◌, length, take, Ok, Err, IfOk, IfErr, OnOk, OnErr};
+ghost use Rattle.schc_bits.specs.Bits.{number_bits, octets};
 ghost use Rattle.coap_fields.specs.Fields.{MessageOf, field, token_fields, header_fields};
-ghost use Rattle.coap_fields.specs.Reading.{is_first_wrong, token_at, first_at, split_of, read_message, message_in, IsRefusal};
+ghost use Rattle.coap_fields.specs.Reading.{is_first_wrong, token_at, first_at, split_of, read_message, message_in, behind, IsRefusal};
+ghost use Rattle.coap_fields.specs.Stops.{IsStop};
 
 use crate::options::push_options;
-use rule_model::{FieldValue, Fields, Split, SplitFault};
+use rule_model::{FieldValue, Fields, Split, SplitFault, at_name};
 use schc_bits::{Bits, ItemList};
-use schc_ids::{FieldAt, FieldName};
+use schc_ids::FieldName;
 use std::alloc::{AllocError, Global};
 
 /// Splits a CoAP message (RFC 7252 section 3) into the fields of its header, its token where it has
@@ -23,18 +24,66 @@ pub fn split(alloc: Global, message: &[u8]) -> Result<Split, SplitFault>
     ensures ok { IfOk result (λ split. MessageOf message.now split.fields split.payload_from) }
     ensures read { IfOk result (λ split. message_in message.now ≡ Ok split) }
     ensures err { IfErr result (λ fault. IsRefusal fault (message_in message.now)) }
+    ensures stops { IfErr result (λ fault. IsStop fault message.now) }
 {
-    match message {
-        [] => Err(SplitFault::NotCoap(0)),
-        [first, later @ ..] => split_from(alloc, message.len(), *first, later),
+    let mut fields = ItemList::new(alloc);
+    match split_onto(alloc, message, &mut fields) {
+        Err(fault) => Err(fault),
+        Ok(payload_from) => Ok(Split {
+            fields,
+            payload_from,
+        }),
     }
 }
 
-/// The fields of a message that begins with the byte `first`.
-fn split_from(alloc: Global, size: usize, first: u8, bytes: &[u8]) -> Result<Split, SplitFault>
+/// Puts the fields of a CoAP message behind other fields, as `split` gives them, and gives the byte
+/// of the message at which its payload begins. After a refusal the fields are unchanged.
+///
+/// # Errors
+/// As `split`.
+pub fn split_onto(alloc: Global, message: &[u8], fields: &mut Fields) -> Result<usize, SplitFault>
+    ensures ok { IfOk result (λ from. behind fields.old.items (message_in message.now)
+        ≡ Ok (record { fields = fields.new.items; payload_from = from })) }
+    ensures refused { IfErr result (λ fault. IsRefusal fault (message_in message.now)) }
+    ensures stops { IfErr result (λ fault. IsStop fault message.now) }
+    ensures err { OnErr result (fields.new.items ≡ fields.old.items) }
+{
+    let before = fields.len();
+    match push_message(alloc, message, fields) {
+        Ok(payload_from) => Ok(payload_from),
+        Err(fault) => {
+            fields.truncate(before);
+            Err(fault)
+        }
+    }
+}
+
+/// Puts the fields of a message last. After a refusal some of them may stand there.
+fn push_message(alloc: Global, message: &[u8], fields: &mut Fields) -> Result<usize, SplitFault>
+    ensures ok { IfOk result (λ from. behind fields.old.items (message_in message.now)
+        ≡ Ok (record { fields = fields.new.items; payload_from = from })) }
+    ensures refused { IfErr result (λ fault. IsRefusal fault (message_in message.now)) }
+    ensures err { OnErr result (take (length fields.old.items) fields.new.items ≡ fields.old.items) }
+{
+    match message {
+        [] => Err(SplitFault::NotCoap(0)),
+        [first, later @ ..] => push_from(alloc, message.len(), *first, later, fields),
+    }
+}
+
+/// Puts the fields of a message last that begins with the byte `first`.
+fn push_from(
+    alloc: Global,
+    size: usize,
+    first: u8,
+    bytes: &[u8],
+    fields: &mut Fields,
+) -> Result<usize, SplitFault>
     requires { length bytes.now ≤ size }
-    ensures ok { IfOk result (λ split. split_of size (first_at size first bytes.now) ≡ Ok split) }
-    ensures err { IfErr result (λ fault. IsRefusal fault (split_of size (first_at size first bytes.now))) }
+    ensures ok { IfOk result (λ from. behind fields.old.items (split_of size (first_at size first bytes.now))
+        ≡ Ok (record { fields = fields.new.items; payload_from = from })) }
+    ensures refused { IfErr result (λ fault. IsRefusal fault (split_of size (first_at size first bytes.now))) }
+    ensures err { OnErr result (take (length fields.old.items) fields.new.items ≡ fields.old.items) }
 {
     if is_first_wrong(first) {
         return Err(SplitFault::NotCoap(0));
@@ -42,7 +91,7 @@ fn split_from(alloc: Global, size: usize, first: u8, bytes: &[u8]) -> Result<Spl
     match bytes {
         [code, high, low, rest @ ..] => {
             let id = u16::from(*high) * 256 + u16::from(*low);
-            split_after(alloc, size, first, *code, id, rest)
+            push_after(alloc, size, first, *code, id, rest, fields)
         }
         _ => Err(SplitFault::NotCoap(size)),
     }
@@ -54,99 +103,90 @@ fn is_first_wrong(first: u8) -> bool
     first / 64 != 1 || first % 16 > 8
 }
 
-/// The fields of a message with this header, and these bytes after it.
-fn split_after(
+/// Puts the fields of a message last that has this header, and these bytes after it.
+fn push_after(
     alloc: Global,
     size: usize,
     first: u8,
     code: u8,
     id: u16,
     bytes: &[u8],
-) -> Result<Split, SplitFault>
+    fields: &mut Fields,
+) -> Result<usize, SplitFault>
     requires { length bytes.now ≤ size }
-    ensures ok { IfOk result (λ split. split_of size (token_at size (first / 16 % 4) (first % 16) code id bytes.now) ≡ Ok split) }
-    ensures err { IfErr result (λ fault. IsRefusal fault (split_of size (token_at size (first / 16 % 4) (first % 16) code id bytes.now))) }
+    ensures ok { IfOk result (λ from.
+        behind fields.old.items (split_of size (token_at size (first / 16 % 4) (first % 16) code id bytes.now))
+        ≡ Ok (record { fields = fields.new.items; payload_from = from })) }
+    ensures refused { IfErr result (λ fault. IsRefusal fault (split_of size (token_at size (first / 16 % 4) (first % 16) code id bytes.now))) }
+    ensures err { OnErr result (take (length fields.old.items) fields.new.items ≡ fields.old.items) }
 {
     let tkl = usize::from(first % 16);
     if bytes.len() < tkl {
         return Err(SplitFault::NotCoap(size));
     }
     let (token, rest) = bytes.split_at(tkl);
-    match front_fields(alloc, first, code, id, token) {
+    match put_front_fields(alloc, first, code, id, token, fields) {
         Err(_) => Err(SplitFault::Memory),
-        Ok(mut fields) => match push_options(alloc, size, rest, &mut fields) {
-            Err(fault) => Err(fault),
-            Ok(payload_from) => Ok(Split {
-                fields,
-                payload_from,
-            }),
-        },
+        Ok(()) => push_options(alloc, size, rest, fields),
     }
 }
 
-/// The fields of the header and the token.
-fn front_fields(
+/// Puts the fields of the header and the token last.
+fn put_front_fields(
     alloc: Global,
     first: u8,
     code: u8,
     id: u16,
     token: &[u8],
-) -> Result<Fields, AllocError>
-    ensures { IfOk result (λ fields. fields.items
-        ≡ header_fields (first / 16 % 4) (first % 16) code id ++ token_fields token.now) }
+    fields: &mut Fields,
+) -> Result<(), AllocError>
+    ensures ok { OnOk result (fields.new.items ≡ fields.old.items
+        ++ (header_fields (first / 16 % 4) (first % 16) code id ++ token_fields token.now)) }
+    ensures err { OnErr result (fields.new.items ≡ fields.old.items) }
 {
-    let mut fields = ItemList::new(alloc);
-    push_number(alloc, &mut fields, FieldName::CoapVersion, 1, 2)?;
-    push_number(
-        alloc,
-        &mut fields,
-        FieldName::CoapType,
-        u64::from(first / 16 % 4),
-        2,
-    )?;
-    push_number(
-        alloc,
-        &mut fields,
-        FieldName::CoapTkl,
-        u64::from(first % 16),
-        4,
-    )?;
-    push_number(alloc, &mut fields, FieldName::CoapCode, u64::from(code), 8)?;
-    push_number(alloc, &mut fields, FieldName::CoapMid, u64::from(id), 16)?;
-    push_token(alloc, &mut fields, token)?;
-    Ok(fields)
+    let version = number_field(alloc, FieldName::CoapVersion, 1, 2)?;
+    let kind = number_field(alloc, FieldName::CoapType, u64::from(first / 16 % 4), 2)?;
+    let tkl = number_field(alloc, FieldName::CoapTkl, u64::from(first % 16), 4)?;
+    let code = number_field(alloc, FieldName::CoapCode, u64::from(code), 8)?;
+    let id = number_field(alloc, FieldName::CoapMid, u64::from(id), 16)?;
+    let token_value = Bits::from_bytes(alloc, token)?;
+    fields.reserve(6)?;
+    fields.put(version);
+    fields.put(kind);
+    fields.put(tkl);
+    fields.put(code);
+    fields.put(id);
+    put_token(fields, token, token_value);
+    Ok(())
 }
 
-fn push_number(
+/// Puts the field of the token last, where it isn't empty.
+fn put_token(fields: &mut Fields, token: &[u8], value: Bits)
+    requires room { 1 ≤ fields.old.spare }
+    requires value { value ≡ octets token.now }
+    ensures { fields.new.items ≡ fields.old.items ++ token_fields token.now }
+{
+    if !token.is_empty() {
+        fields.put(FieldValue {
+            at: at_name(FieldName::CoapToken),
+            value,
+        });
+    }
+}
+
+fn number_field(
     alloc: Global,
-    fields: &mut Fields,
     name: FieldName,
     number: u64,
     width: u32,
-) -> Result<(), AllocError>
+) -> Result<FieldValue, AllocError>
     requires width { width ≤ 64 }
     requires fits { number < 2 ^ width }
-    ensures { OnOk result (fields.new.items ≡ fields.old.items ++ field name (number_bits width number) ∷ []) }
+    ensures { IfOk result (λ its. its ≡ field name (number_bits width number)) }
 {
     let value = Bits::from_number(alloc, number, width)?;
-    fields.push(FieldValue {
-        at: FieldAt { name, position: 1 },
-        value,
-    })
-}
-
-fn push_token(alloc: Global, fields: &mut Fields, token: &[u8]) -> Result<(), AllocError>
-    ensures { OnOk result (fields.new.items ≡ fields.old.items ++ token_fields token.now) }
-{
-    if token.is_empty() {
-        return Ok(());
-    }
-    let value = Bits::from_bytes(alloc, token)?;
-    fields.push(FieldValue {
-        at: FieldAt {
-            name: FieldName::CoapToken,
-            position: 1,
-        },
+    Ok(FieldValue {
+        at: at_name(name),
         value,
     })
 }

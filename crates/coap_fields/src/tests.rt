@@ -71,10 +71,10 @@ fn push_digit(text: &mut String, number: u8) -> Result<(), AllocError> {
 }
 
 /// The bits as hexadecimal digits, two bits alone as one digit.
-fn push_bits(text: &mut String, bits: &[bool]) -> Result<(), AllocError> {
+fn push_bits(text: &mut String, bits: &Bits) -> Result<(), AllocError> {
     let mut number = 0u8;
-    for (i, bit) in bits.iter().enumerate() {
-        number = (number % 8) * 2 + u8::from(*bit);
+    for i in 0..bits.len() {
+        number = (number % 8) * 2 + u8::from(bits.bit(i));
         if i % 4 == 3 {
             push_digit(text, number)?;
             number = 0;
@@ -106,7 +106,7 @@ fn push_name(alloc: Global, text: &mut String, at: FieldAt) -> Result<(), AllocE
 fn push_fields(alloc: Global, text: &mut String, fields: &Fields) -> Result<(), AllocError> {
     for field in fields.as_slice() {
         push_name(alloc, text, field.at)?;
-        push_bits(text, field.value.as_slice())?;
+        push_bits(text, &field.value)?;
         text.push_str(" ")?;
     }
     Ok(())

@@ -7,10 +7,10 @@ ghost use Rattle.coap_fields.specs.Message.{nibble, extension, option_spelled, o
 ghost use Rattle.coap_fields.specs.Join.{value_of, option_from, options_from, number_after, join_refusal, message_from};
 ghost use Rattle.coap_fields.specs.Placed.{IsWritable, field_spelled};
 
+use crate::join_conditions::number_in;
 use crate::options::MARKER;
-use crate::refusing::{number_in, value_in};
-use rule_model::FieldValue;
-use schc_bits::{ItemList, Octets, whole_bytes};
+use rule_model::{FieldValue, value_in};
+use schc_bits::{ItemList, Octets};
 use schc_ids::FieldName;
 use std::alloc::{AllocError, Global};
 
@@ -49,7 +49,7 @@ fn token_bytes(alloc: Global, fields: &[FieldValue]) -> Result<Octets, AllocErro
     ensures { IfOk result (λ token. token.items ≡ bytes_of (value_of fields.now FieldName.CoapToken)) }
 {
     match value_in(fields, FieldName::CoapToken) {
-        Some(value) => whole_bytes(alloc, value.as_slice()),
+        Some(value) => value.as_part().to_whole_bytes(alloc),
         None => Ok(ItemList::new(alloc)),
     }
 }
@@ -123,7 +123,7 @@ fn put_field(
 {
     match field.at.name {
         FieldName::CoapOption(number) => {
-            let value = whole_bytes(alloc, field.value.as_slice())?;
+            let value = field.value.as_part().to_whole_bytes(alloc)?;
             let delta = usize::from(number).saturating_sub(usize::from(before));
             put_option(message, delta, value.as_slice())?;
             Ok(number)

@@ -3,9 +3,9 @@ pub mod PlaceLemmas
 pub mod RefusalLemmas
 pub mod FieldsLemmas
 pub mod SumLemmas
-pub mod PresenceLemmas
-pub mod NameLemmas
+pub mod JoinRefusalLemmas
 pub mod OrderLemmas
 pub mod SpanLemmas
 pub mod JoinLemmas
 pub mod SplitLemmas
+pub mod ExtendLemmas

@@ -13,7 +13,7 @@ use Rattle.ip_udp_fields.specs.Layout.{bits_of}
 use Rattle.ip_udp_fields.specs.Fields.{at_name}
 use Rattle.ip_udp_fields.specs.Join.{is_at, value_in, value_of, presence_of, presence, names_after, order}
 use Rattle.rule_model.proofs.FirstLemmas.{first_held-none, first_held-front, first_held-append_none}
-use Rattle.ip_udp_fields.proofs.NameLemmas.{same_name-true}
+use Rattle.schc_ids.proofs.NamesLemmas.{same_name-true}
 
 first_held-next : {A : Type 0} (t : Bool) (x : A) (rest : List (Bool × A)) → first_held ((t, x) ∷ rest) ≡ None → (t ≡ false) × (first_held rest ≡ None)
 first_held-next true x rest e = absurd (cc)

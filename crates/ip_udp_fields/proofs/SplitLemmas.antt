@@ -7,57 +7,64 @@ use Rattle.std.proofs.lemmas.List.{length-take-le, length-drop, take-append-drop
 use Rattle.schc_bits.specs.Bits.{octets, bits_value, AreBytes}
 use Rattle.schc_bits.proofs.Octets.{length-octets, take-octets, octets-injective}
 use Rattle.schc_ids.specs.declared.ends.Direction.{Direction}
+use Rattle.schc_ids.specs.declared.ends.Direction.TheVariants.{Up, Down}
 use Rattle.schc_ids.specs.declared.names.Stack.{Stack}
 use Rattle.schc_ids.specs.declared.names.Stack.TheVariants as stack
 use Rattle.schc_ids.specs.declared.names.FieldName.{FieldName}
+use Rattle.schc_ids.specs.declared.names.FieldName.TheVariants.{IpVersion, IpPayloadLength, IpNextHeader, UdpLength}
 use Rattle.schc_ids.specs.Names.{fields_of_stack}
 use Rattle.rule_model.specs.declared.value.FieldValue.{FieldValue}
 use Rattle.rule_model.specs.First.{first_held}
-use Rattle.ip_udp_fields.specs.Layout.{IsWithoutCoap, header_size, place_of, bits_of, piece, number_in}
+use Rattle.ip_udp_fields.specs.Layout.{IsWithoutCoap, header_size, fields_in_packet_order, place_of, bits_of, piece, number_in}
 use Rattle.ip_udp_fields.specs.Fields.{fields_in, IsIpv6, IsUdp, IsPacketOf, FieldsOf}
 use Rattle.ip_udp_fields.specs.Refusals.{ip_refusals, udp_refusals, refusal}
 use Rattle.ip_udp_fields.specs.Join.{value_in, value_of, presence_of, presence, order, is_number, contents, join_refusal, values_in}
 use Rattle.rule_model.proofs.FirstLemmas.{first_held-from_none, first_held-append_none}
-use Rattle.ip_udp_fields.proofs.PlaceLemmas.{is_within, fields-within}
+use Rattle.ip_udp_fields.proofs.PlaceLemmas.{is_within, fields_in_packet_order-within}
 use Rattle.ip_udp_fields.proofs.RefusalLemmas.{refusal-is_packet, header_size-is_packet}
-use Rattle.ip_udp_fields.proofs.SpanLemmas.{span-headers, values_in-pieces, mirror}
+use Rattle.ip_udp_fields.proofs.SpanLemmas.{span-headers, values_in-pieces, mirror, to_packet_order}
 use Rattle.ip_udp_fields.proofs.SumLemmas.{number_in-below}
 
 abbrev pub field_bits : Direction → List ℕ → FieldName → List Bool
-field_bits way packet name = piece (place_of way name) (bits_of name) packet
+field_bits direction packet name = piece (place_of direction name) (bits_of name) packet
 
 -- each field is found with its bits
-found-ip : (way : Direction) (packet : List ℕ) → AllByRecursion (λ n. value_in (fields_in stack.Ip way packet) n ≡ Some (field_bits way packet n)) (fields_of_stack stack.Ip)
+found-ip : (direction : Direction) (packet : List ℕ) → AllByRecursion (λ n. value_in (fields_in stack.Ip direction packet) n ≡ Some (field_bits direction packet n)) (fields_of_stack stack.Ip)
 unfolding fields_in
-found-ip way packet = (refl, (refl, (refl, (refl, (refl, (refl, (refl, (refl, (refl, (refl, tt))))))))))
+found-ip Up packet = (refl, (refl, (refl, (refl, (refl, (refl, (refl, (refl, (refl, (refl, tt))))))))))
+found-ip Down packet = (refl, (refl, (refl, (refl, (refl, (refl, (refl, (refl, (refl, (refl, tt))))))))))
 
-found-udp : (way : Direction) (packet : List ℕ) → AllByRecursion (λ n. value_in (fields_in stack.IpUdp way packet) n ≡ Some (field_bits way packet n)) (fields_of_stack stack.IpUdp)
+found-udp : (direction : Direction) (packet : List ℕ) → AllByRecursion (λ n. value_in (fields_in stack.IpUdp direction packet) n ≡ Some (field_bits direction packet n)) (fields_of_stack stack.IpUdp)
 unfolding fields_in
-found-udp way packet =
+found-udp Up packet =
+    (refl, (refl, (refl, (refl, (refl, (refl, (refl, (refl, (refl, (refl, (refl, (refl, (refl, (refl, tt))))))))))))))
+found-udp Down packet =
     (refl, (refl, (refl, (refl, (refl, (refl, (refl, (refl, (refl, (refl, (refl, (refl, (refl, (refl, tt))))))))))))))
 
-pub found : (of : Stack) (way : Direction) (packet : List ℕ) → IsWithoutCoap of → AllByRecursion (λ n. value_in (fields_in of way packet) n ≡ Some (field_bits way packet n)) (fields_of_stack of)
-found stack.Ip way packet h = found-ip way packet
-found stack.IpUdp way packet h = found-udp way packet
-found stack.IpUdpCoap way packet h = absurd h
+pub found : (of : Stack) (direction : Direction) (packet : List ℕ) → IsWithoutCoap of → AllByRecursion (λ n. value_in (fields_in of direction packet) n ≡ Some (field_bits direction packet n)) (fields_of_stack of)
+found stack.Ip direction packet h = found-ip direction packet
+found stack.IpUdp direction packet h = found-udp direction packet
+found stack.IpUdpCoap direction packet h = absurd h
 
-pub ordered : (of : Stack) (way : Direction) (packet : List ℕ) → IsWithoutCoap of → first_held (order (fields_of_stack of) (fields_in of way packet)) ≡ None
+pub ordered : (of : Stack) (direction : Direction) (packet : List ℕ) → IsWithoutCoap of → first_held (order (fields_in_packet_order of direction) (fields_in of direction packet)) ≡ None
 unfolding fields_in
-ordered stack.Ip way packet h = refl
-ordered stack.IpUdp way packet h = refl
-ordered stack.IpUdpCoap way packet h = absurd h
+ordered stack.Ip Up packet h = refl
+ordered stack.Ip Down packet h = refl
+ordered stack.IpUdp Up packet h = refl
+ordered stack.IpUdp Down packet h = refl
+ordered stack.IpUdpCoap direction packet h = absurd h
 
 pub length-piece : (place width : ℕ) (packet : List ℕ) → place + width ≤ 8 * length packet → length (piece place width packet) ≡ width
 unfolding piece
 length-piece place width packet h =
     length-take-le width (drop place (octets packet)) (omega (arith, length-drop place (octets packet), length-octets packet))
 
-pub lengths : (of : Stack) (way : Direction) (packet : List ℕ) (names : List FieldName) → header_size of ≤ length packet → list_all (is_within of way) names ≡ true → AllByRecursion (λ n. length (field_bits way packet n) ≡ bits_of n) names
-lengths of way packet [] l w = tt
-lengths of way packet (name ∷ names) l w =
-    let parts : (is_within of way name ≡ true) × (list_all (is_within of way) names ≡ true) = and_parts (is_within of way name) (list_all (is_within of way) names) w in
-    let within : place_of way name + bits_of name ≤ 8 * header_size of = leb-true (place_of way name + bits_of name) (8 * header_size of) parts.0 in
-    (length-piece (place_of way name) (bits_of name) packet (omega arith), lengths of way packet names l parts.1)
+pub lengths : (of : Stack) (direction : Direction) (packet : List ℕ) (names : List FieldName) → header_size of ≤ length packet → list_all (is_within of direction) names ≡ true → AllByRecursion (λ n. length (field_bits direction packet n) ≡ bits_of n) names
+lengths of direction packet [] l w = tt
+lengths of direction packet (name ∷ names) l w =
+    let parts : (is_within of direction name ≡ true) × (list_all (is_within of direction) names ≡ true) = and_parts (is_within of direction name) (list_all (is_within of direction) names) w in
+    let within : place_of direction name + bits_of name ≤ 8 * header_size of = leb-true (place_of direction name + bits_of name) (8 * header_size of) parts.0 in
+    (length-piece (place_of direction name) (bits_of name) packet (omega arith), lengths of direction packet names l parts.1)
 
 not_same : (a b : ℕ) → a ≡ b → not (a == b) ≡ false
 not_same a b e = ap not (eq-eqb a b e)
@@ -73,45 +80,50 @@ present fields v (name ∷ names) f l =
     first_held-append_none (presence_of fields name) (presence fields names) (first_held-from_none (presence_of fields name) (absent, (wide, tt)))
     ∙ present fields v names f.1 l.1
 
-is_number-piece : (place width number : ℕ) (packet : List ℕ) → place + width ≤ 8 * length packet → number_in place width packet ≡ number → not (is_number width number (Some (piece place width packet))) ≡ false
+is_number-piece : (place width number : ℕ) (packet : List ℕ) (value : Option (List Bool)) → value ≡ Some (piece place width packet) → place + width ≤ 8 * length packet → number_in place width packet ≡ number → not (is_number width number value) ≡ false
 unfolding number_in
-is_number-piece place width number packet h e =
-    ap not (and_from (length (piece place width packet) == width) (bits_value (piece place width packet) == number) (eq-eqb (length (piece place width packet)) width (length-piece place width packet h)) (eq-eqb (bits_value (piece place width packet)) number e))
+is_number-piece place width number packet value v h e =
+    rw v (ap not (and_from (length (piece place width packet) == width) (bits_value (piece place width packet) == number) (eq-eqb (length (piece place width packet)) width (length-piece place width packet h)) (eq-eqb (bits_value (piece place width packet)) number e)))
 
 not_below : (a b : ℕ) → b ≤ a → nat_lt a b ≡ false
 not_below a b h = le-ltb a b h
 
-right-ip : (way : Direction) (packet : List ℕ) (size : ℕ) → IsIpv6 packet → size + 40 ≡ length packet → size ≤ 65535 → first_held (contents stack.Ip (fields_in stack.Ip way packet) size) ≡ None
-unfolding fields_in
-right-ip way packet size p s m =
-    first_held-from_none (contents stack.Ip (fields_in stack.Ip way packet) size) (
-      is_number-piece 0 4 6 packet (omega (arith, p.header)) p.version,
-      (not_below 65535 size m, (is_number-piece 32 16 size packet (omega (arith, p.header)) (omega (arith, p.payload_length)), tt)),
+right-ip : (direction : Direction) (packet : List ℕ) (size : ℕ) → IsIpv6 packet → size + 40 ≡ length packet → size ≤ 65535 → first_held (contents stack.Ip (fields_in stack.Ip direction packet) size) ≡ None
+right-ip direction packet size p s m =
+    let its : List FieldValue = fields_in stack.Ip direction packet in
+    let all = found-ip direction packet in
+    first_held-from_none (contents stack.Ip its size) (
+      is_number-piece 0 4 6 packet (value_in its IpVersion) all.0 (omega (arith, p.header)) p.version,
+      (
+        not_below 65535 size m,
+        (is_number-piece 32 16 size packet (value_in its IpPayloadLength) all.1.1.1.0 (omega (arith, p.header)) (omega (arith, p.payload_length)), tt),
+      ),
     )
 
-right-udp : (way : Direction) (packet : List ℕ) (size : ℕ) → IsUdp packet → size + 48 ≡ length packet → 8 + size ≤ 65535 → first_held (contents stack.IpUdp (fields_in stack.IpUdp way packet) size) ≡ None
-unfolding fields_in
-right-udp way packet size p s m =
-    first_held-from_none (contents stack.IpUdp (fields_in stack.IpUdp way packet) size) (
-      is_number-piece 0 4 6 packet (omega (arith, p.header)) p.ipv6.version,
+right-udp : (direction : Direction) (packet : List ℕ) (size : ℕ) → IsUdp packet → size + 48 ≡ length packet → 8 + size ≤ 65535 → first_held (contents stack.IpUdp (fields_in stack.IpUdp direction packet) size) ≡ None
+right-udp direction packet size p s m =
+    let its : List FieldValue = fields_in stack.IpUdp direction packet in
+    let all = found-udp direction packet in
+    first_held-from_none (contents stack.IpUdp its size) (
+      is_number-piece 0 4 6 packet (value_in its IpVersion) all.0 (omega (arith, p.header)) p.ipv6.version,
       (
-        is_number-piece 48 8 17 packet (omega (arith, p.header)) p.next_header,
+        is_number-piece 48 8 17 packet (value_in its IpNextHeader) all.1.1.1.1.0 (omega (arith, p.header)) p.next_header,
         (
           not_below 65535 (8 + size) m,
           (
-            is_number-piece 32 16 (8 + size) packet (omega (arith, p.header)) (omega (arith, p.ipv6.payload_length)),
-            (is_number-piece 352 16 (8 + size) packet (omega (arith, p.header)) (omega (arith, p.udp_length)), tt),
+            is_number-piece 32 16 (8 + size) packet (value_in its IpPayloadLength) all.1.1.1.0 (omega (arith, p.header)) (omega (arith, p.ipv6.payload_length)),
+            (is_number-piece 352 16 (8 + size) packet (value_in its UdpLength) all.1.1.1.1.1.1.1.1.1.1.1.1.0 (omega (arith, p.header)) (omega (arith, p.udp_length)), tt),
           ),
         ),
       ),
     )
 
-right : (of : Stack) (way : Direction) (packet : List ℕ) → IsPacketOf of packet → first_held (contents of (fields_in of way packet) (length packet - header_size of)) ≡ None
-right stack.Ip way packet p =
-    right-ip way packet (length packet - 40) p (omega (arith, p.header)) (omega (arith, p.payload_length, number_in-below 32 16 packet))
-right stack.IpUdp way packet p =
-    right-udp way packet (length packet - 48) p (omega (arith, p.header)) (omega (arith, p.header, p.udp_length, number_in-below 352 16 packet))
-right stack.IpUdpCoap way packet p = absurd p
+right : (of : Stack) (direction : Direction) (packet : List ℕ) → IsPacketOf of packet → first_held (contents of (fields_in of direction packet) (length packet - header_size of)) ≡ None
+right stack.Ip direction packet p =
+    right-ip direction packet (length packet - 40) p (omega (arith, p.header)) (omega (arith, p.payload_length, number_in-below 32 16 packet))
+right stack.IpUdp direction packet p =
+    right-udp direction packet (length packet - 48) p (omega (arith, p.header)) (omega (arith, p.header, p.udp_length, number_in-below 352 16 packet))
+right stack.IpUdpCoap direction packet p = absurd p
 
 pub without_coap : (of : Stack) (packet : List ℕ) → IsPacketOf of packet → IsWithoutCoap of
 without_coap stack.Ip packet p = tt
@@ -119,21 +131,21 @@ without_coap stack.IpUdp packet p = tt
 without_coap stack.IpUdpCoap packet p = absurd p
 
 -- what a packet was split into isn't refused
-pub joins_again : (of : Stack) (way : Direction) (packet : List ℕ) (fields : List FieldValue) (from : ℕ) → FieldsOf of way packet fields from → join_refusal of fields (length (drop from packet)) ≡ None
+pub joins_again : (of : Stack) (direction : Direction) (packet : List ℕ) (fields : List FieldValue) (from : ℕ) → FieldsOf of direction packet fields from → join_refusal of direction fields (length (drop from packet)) ≡ None
 unfolding join_refusal
-joins_again of way packet fields from f =
+joins_again of direction packet fields from f =
     let h : IsWithoutCoap of = without_coap of packet f.is_packet in
-    let names : List FieldName = fields_of_stack of in
-    let its : List FieldValue = fields_in of way packet in
+    let names : List FieldName = fields_in_packet_order of direction in
+    let its : List FieldValue = fields_in of direction packet in
     let size : ℕ = length packet - header_size of in
     let long : header_size of ≤ length packet = header_size-is_packet of packet f.is_packet in
     let none_absent : first_held (presence its names) ≡ None =
-    present its (field_bits way packet) names (found of way packet h) (lengths of way packet names long (fields-within of way h))
+    present its (field_bits direction packet) names (to_packet_order (λ n. value_in its n ≡ Some (field_bits direction packet n)) of direction h (found of direction packet h)) (lengths of direction packet names long (fields_in_packet_order-within of direction h))
     in
     let none : first_held (presence its names ++ (order names its ++ contents of its size)) ≡ None =
     first_held-append_none (presence its names) (order names its ++ contents of its size) none_absent
-    ∙ first_held-append_none (order names its) (contents of its size) (ordered of way packet h)
-    ∙ right of way packet f.is_packet
+    ∙ first_held-append_none (order names its) (contents of its size) (ordered of direction packet h)
+    ∙ right of direction packet f.is_packet
     in
     let count : length (drop from packet) ≡ size = length-drop from packet ∙ ap (λ (n : ℕ). length packet - n) f.its_payload in
     rw (f.its_fields, count) none
@@ -148,27 +160,27 @@ values fields v [] a = tt
 values fields v (name ∷ names) a = (ap (λ (o : Option (List Bool)). unwrap_or o []) a.0, values fields v names a.1)
 
 -- the headers of a packet are the values of its fields
-pub headers : (of : Stack) (way : Direction) (packet : List ℕ) → IsWithoutCoap of → octets (take (header_size of) packet) ≡ values_in way (fields_in of way packet) (fields_of_stack of)
+pub headers : (of : Stack) (direction : Direction) (packet : List ℕ) → IsWithoutCoap of → octets (take (header_size of) packet) ≡ values_in direction (fields_in of direction packet) (fields_of_stack of)
 unfolding piece
-headers of way packet h =
-    let its : List FieldValue = fields_in of way packet in
-    let all = mirror (λ n. value_of its n ≡ field_bits way packet n) of way h (values its (field_bits way packet) (fields_of_stack of) (found of way packet h)) in
+headers of direction packet h =
+    let its : List FieldValue = fields_in of direction packet in
+    let all = mirror (λ n. value_of its n ≡ field_bits direction packet n) of direction h (values its (field_bits direction packet) (fields_of_stack of) (found of direction packet h)) in
     let whole : 8 * header_size of - 0 ≡ 8 * header_size of = omega arith in
-    let joined : values_in way its (fields_of_stack of) ≡ take (8 * header_size of - 0) (octets packet) =
-    values_in-pieces way its (fields_of_stack of) 0 (8 * header_size of) packet (span-headers of way h) all
+    let joined : values_in direction its (fields_of_stack of) ≡ take (8 * header_size of - 0) (octets packet) =
+    values_in-pieces direction its (fields_of_stack of) 0 (8 * header_size of) packet (span-headers of direction h) all
     in
     sym (joined ∙ ap (λ (n : ℕ). take n (octets packet)) whole ∙ take-octets (header_size of) packet)
 
 -- packets with the same fields and the same payload are one
-pub one_packet : (of : Stack) (way : Direction) (this that : List ℕ) (fields : List FieldValue) (here there : ℕ) → AreBytes this → AreBytes that → FieldsOf of way this fields here → FieldsOf of way that fields there → drop here this ≡ drop there that → this ≡ that
-one_packet of way this that fields here there a b f g e =
+pub one_packet : (of : Stack) (direction : Direction) (this that : List ℕ) (fields : List FieldValue) (here there : ℕ) → AreBytes this → AreBytes that → FieldsOf of direction this fields here → FieldsOf of direction that fields there → drop here this ≡ drop there that → this ≡ that
+one_packet of direction this that fields here there a b f g e =
     let h : IsWithoutCoap of = without_coap of this f.is_packet in
     let size : ℕ = header_size of in
-    let same : fields_in of way this ≡ fields_in of way that = sym f.its_fields ∙ g.its_fields in
+    let same : fields_in of direction this ≡ fields_in of direction that = sym f.its_fields ∙ g.its_fields in
     let bits : octets (take size this) ≡ octets (take size that) =
-    headers of way this h
-    ∙ ap (λ (fs : List FieldValue). values_in way fs (fields_of_stack of)) same
-    ∙ sym (headers of way that h)
+    headers of direction this h
+    ∙ ap (λ (fs : List FieldValue). values_in direction fs (fields_of_stack of)) same
+    ∙ sym (headers of direction that h)
     in
     let front : take size this ≡ take size that = octets-injective (take size this) (take size that) (take_bytes size this a) (take_bytes size that b) bits in
     let back : drop size this ≡ drop size that =
@@ -180,13 +192,13 @@ one_packet of way this that fields here there a b f g e =
     ∙ take-append-drop size that
 
 -- a packet has one list of fields, and one place of its payload
-pub one_split : (of : Stack) (way : Direction) (packet : List ℕ) (these those : List FieldValue) (here there : ℕ) → FieldsOf of way packet these here → FieldsOf of way packet those there → (these ≡ those) × (here ≡ there)
-one_split of way packet these those here there f g = (f.its_fields ∙ sym g.its_fields, f.its_payload ∙ sym g.its_payload)
+pub one_split : (of : Stack) (direction : Direction) (packet : List ℕ) (these those : List FieldValue) (here there : ℕ) → FieldsOf of direction packet these here → FieldsOf of direction packet those there → (these ≡ those) × (here ≡ there)
+one_split of direction packet these those here there f g = (f.its_fields ∙ sym g.its_fields, f.its_payload ∙ sym g.its_payload)
 
 is_difference : (number front all : ℕ) → number + front ≡ all → number ≡ all - front
 is_difference number front all e = omega arith
 
-none-ip : (packet : List ℕ) → IsIpv6 packet → first_held (ip_refusals packet) ≡ None
+pub none-ip : (packet : List ℕ) → IsIpv6 packet → first_held (ip_refusals packet) ≡ None
 none-ip packet p =
     first_held-from_none (ip_refusals packet) (
       not_below (length packet) 40 p.header,

@@ -16,17 +16,17 @@ RefusesExactly = (of : Stack) (packet : List ℕ) → IsWithoutCoap of → (refu
 -- a packet has one list of fields, and one place of its payload
 abbrev pub HasOneSplit : Type 0
 HasOneSplit =
-    (of : Stack) (way : Direction) (packet : List ℕ) (these those : List FieldValue) (here there : ℕ) → FieldsOf of way packet these here →
-    FieldsOf of way packet those there → (these ≡ those) × (here ≡ there)
+    (of : Stack) (direction : Direction) (packet : List ℕ) (these those : List FieldValue) (here there : ℕ) → FieldsOf of direction packet these here →
+    FieldsOf of direction packet those there → (these ≡ those) × (here ≡ there)
 
 -- what a packet was split into isn't refused
 abbrev pub JoinsAgain : Type 0
 JoinsAgain =
-    (of : Stack) (way : Direction) (packet : List ℕ) (fields : List FieldValue) (from : ℕ) → FieldsOf of way packet fields from →
-    join_refusal of fields (length (drop from packet)) ≡ None
+    (of : Stack) (direction : Direction) (packet : List ℕ) (fields : List FieldValue) (from : ℕ) → FieldsOf of direction packet fields from →
+    join_refusal of direction fields (length (drop from packet)) ≡ None
 
 -- packets with the same fields and the same payload are one
 abbrev pub HaveOnePacket : Type 0
 HaveOnePacket =
-    (of : Stack) (way : Direction) (this that : List ℕ) (fields : List FieldValue) (here there : ℕ) → AreBytes this → AreBytes that →
-    FieldsOf of way this fields here → FieldsOf of way that fields there → drop here this ≡ drop there that → this ≡ that
+    (of : Stack) (direction : Direction) (this that : List ℕ) (fields : List FieldValue) (here there : ℕ) → AreBytes this → AreBytes that →
+    FieldsOf of direction this fields here → FieldsOf of direction that fields there → drop here this ≡ drop there that → this ≡ that

@@ -5,13 +5,10 @@ ghost use Rattle.std.specs.Option.{option_copied, option_map};
 ghost use Rattle.schc_ids.specs.Names.{fields_of_stack};
 ghost use Rattle.schc_bits.specs.Bits.{AreBytes, padded, bytes_of};
 ghost use Rattle.rule_model.specs.First.{first_held};
-ghost use Rattle.ip_udp_fields.specs.Layout.{IsWithoutCoap, header_size};
+ghost use Rattle.ip_udp_fields.specs.Layout.{IsWithoutCoap, header_size, mirrored, fields_in_packet_order};
 ghost use Rattle.ip_udp_fields.specs.Fields.{FieldsOf, at_name};
 ghost use Rattle.ip_udp_fields.specs.Join.{
-  is_at,
-  value_in,
   value_of,
-  presence_of,
   presence,
   names_after,
   order,
@@ -19,14 +16,15 @@ ghost use Rattle.ip_udp_fields.specs.Join.{
   is_number,
   contents,
   join_refusal,
-  mirrored,
   values_in,
   header_bits,
 };
 
-use crate::layout::{bits, mirrored};
-use rule_model::{FieldValue, Fields, JoinFault};
-use schc_bits::{Bits, Octets, number_of};
+use crate::layout::{fields_in_packet_order, mirrored};
+use rule_model::{
+    FieldValue, Fields, JoinFault, at_name, bits_of, is_at, presence_fault, value_in,
+};
+use schc_bits::{Bits, Octets};
 use schc_ids::{Direction, FieldAt, FieldName, Stack, always_present};
 use std::alloc::{AllocError, Global};
 
@@ -49,12 +47,12 @@ pub fn join(
     ensures fields { IfOk result (λ packet. FieldsOf stack direction packet.items fields.now.items (header_size stack)) }
     ensures payload { IfOk result (λ packet. drop (header_size stack) packet.items ≡ payload.now) }
     ensures bytes { IfOk result (λ packet. AreBytes packet.items) }
-    ensures ok { IfOk result (λ _. join_refusal stack fields.now.items (length payload.now) ≡ None) }
+    ensures ok { IfOk result (λ _. join_refusal stack direction fields.now.items (length payload.now) ≡ None) }
     ensures err { IfErr result (λ fault. (fault ≡ JoinFault.Memory)
-        ⊎ (join_refusal stack fields.now.items (length payload.now) ≡ Some fault)) }
+        ⊎ (join_refusal stack direction fields.now.items (length payload.now) ≡ Some fault)) }
 {
     let listed = fields.as_slice();
-    match join_refusal(stack, listed, payload.len()) {
+    match join_refusal(stack, direction, listed, payload.len()) {
         Some(fault) => Err(fault),
         None => match join_by_name(alloc, stack, direction, listed, payload) {
             Ok(packet) => Ok(packet),
@@ -109,72 +107,27 @@ fn append_value(header: &mut Bits, fields: &[FieldValue], name: FieldName) -> Re
     }
 }
 
-fn is_at(at: FieldAt, name: FieldName) -> bool
-    ensures { result ≡ is_at at name }
+fn join_refusal(
+    stack: Stack,
+    direction: Direction,
+    fields: &[FieldValue],
+    size: usize,
+) -> Option<JoinFault>
+    ensures { result ≡ join_refusal stack direction fields.now size }
 {
-    at.name.same(name) && at.position == 1
-}
-
-fn value_in(fields: &[FieldValue], name: FieldName) -> Option<&Bits>
-    ensures { option_copied result ≡ value_in fields.now name }
-{
-    for field in fields {
-        if is_at(field.at, name) {
-            return Some(&field.value);
-        }
-    }
-    None
-}
-
-fn join_refusal(stack: Stack, fields: &[FieldValue], size: usize) -> Option<JoinFault>
-    ensures { result ≡ join_refusal stack fields.now size }
-{
-    match presence_fault(stack, fields) {
+    match presence_fault(fields, fields_in_packet_order(stack, direction)) {
         Some(fault) => Some(fault),
-        None => match order_fault(stack, fields) {
+        None => match order_fault(stack, direction, fields) {
             Some(fault) => Some(fault),
             None => content_fault(stack, fields, size),
         },
     }
 }
 
-fn presence_fault(stack: Stack, fields: &[FieldValue]) -> Option<JoinFault>
-    ensures { result ≡ first_held (presence fields.now (fields_of_stack stack)) }
+fn order_fault(stack: Stack, direction: Direction, fields: &[FieldValue]) -> Option<JoinFault>
+    ensures { result ≡ first_held (order (fields_in_packet_order stack direction) fields.now) }
 {
-    for name in always_present(stack) {
-        match field_fault(fields, *name) {
-            Some(fault) => return Some(fault),
-            None => {}
-        }
-    }
-    None
-}
-
-fn field_fault(fields: &[FieldValue], name: FieldName) -> Option<JoinFault>
-    ensures { result ≡ first_held (presence_of fields.now name) }
-{
-    match value_in(fields, name) {
-        None => Some(JoinFault::FieldAbsent(at_name(name))),
-        Some(value) => {
-            if value.len() == bits(name) {
-                None
-            } else {
-                Some(JoinFault::FieldWrong(at_name(name)))
-            }
-        }
-    }
-}
-
-fn at_name(name: FieldName) -> FieldAt
-    ensures { result ≡ at_name name }
-{
-    FieldAt { name, position: 1 }
-}
-
-fn order_fault(stack: Stack, fields: &[FieldValue]) -> Option<JoinFault>
-    ensures { result ≡ first_held (order (fields_of_stack stack) fields.now) }
-{
-    let mut names = always_present(stack);
+    let mut names = fields_in_packet_order(stack, direction);
     for field in fields {
         match names_after(field.at, names) {
             None => return Some(JoinFault::FieldWrong(field.at)),
@@ -256,7 +209,7 @@ pub fn has_number(fields: &[FieldValue], name: FieldName, number: u64) -> bool
 {
     match value_in(fields, name) {
         None => false,
-        Some(value) => is_number(value, bits(name), number),
+        Some(value) => is_number(value, bits_of(name), number),
     }
 }
 
@@ -264,5 +217,5 @@ fn is_number(value: &Bits, width: usize, number: u64) -> bool
     requires { width ≤ 64 }
     ensures { result ≡ is_number width number (Some value.now) }
 {
-    value.len() == width && number_of(value.as_slice()) == number
+    value.len() == width && value.as_part().number() == number
 }

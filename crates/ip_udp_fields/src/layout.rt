@@ -1,16 +1,60 @@
 //! Where the fields stand in a packet.
 
 ghost use Rattle.std.specs.Prelude.{◌≡◌, ◌+◌, ◌*◌, ◌≤◌, ◌<◌, length};
-ghost use Rattle.ip_udp_fields.specs.Join.{mirrored};
-ghost use Rattle.ip_udp_fields.specs.Layout.{header_size, device_place, place_of, bits_of, number_in};
+ghost use Rattle.ip_udp_fields.specs.Layout.{header_size, device_place, place_of, mirrored, fields_in_packet_order, number_in};
 
-use schc_ids::{Direction, FieldName, Stack, width};
+use schc_ids::{Direction, FieldName, Stack, always_present};
 
 /// The bytes of an IPv6 header (RFC 8200 section 3).
 pub const IP_HEADER: usize = 40;
 
 /// The bytes of an IPv6 header and a UDP header (RFC 768).
 pub const IP_UDP_HEADER: usize = 48;
+
+/// The fields of a packet with CoAP on the way down, in packet order. The first 10 are those of IPv6,
+/// and the first 14 those of IPv6 and UDP.
+const DOWN: [FieldName; 19] = [
+    FieldName::IpVersion,
+    FieldName::IpTrafficClass,
+    FieldName::IpFlowLabel,
+    FieldName::IpPayloadLength,
+    FieldName::IpNextHeader,
+    FieldName::IpHopLimit,
+    FieldName::IpAppPrefix,
+    FieldName::IpAppIid,
+    FieldName::IpDevPrefix,
+    FieldName::IpDevIid,
+    FieldName::UdpAppPort,
+    FieldName::UdpDevPort,
+    FieldName::UdpLength,
+    FieldName::UdpChecksum,
+    FieldName::CoapVersion,
+    FieldName::CoapType,
+    FieldName::CoapTkl,
+    FieldName::CoapCode,
+    FieldName::CoapMid,
+];
+
+/// The fields that each packet of the stack has, in packet order: the source's address and port
+/// stand before the destination's.
+pub fn fields_in_packet_order(stack: Stack, direction: Direction) -> &'static [FieldName]
+    ensures { result.now ≡ fields_in_packet_order stack direction }
+{
+    match direction {
+        Direction::Up => always_present(stack),
+        Direction::Down => fields_on_the_way_down(stack),
+    }
+}
+
+fn fields_on_the_way_down(stack: Stack) -> &'static [FieldName]
+    ensures { result.now ≡ fields_in_packet_order stack Direction.Down }
+{
+    match stack {
+        Stack::Ip => &DOWN[..10],
+        Stack::IpUdp => &DOWN[..14],
+        Stack::IpUdpCoap => &DOWN,
+    }
+}
 
 /// The bytes of the headers of IPv6 and, where the stack has it, of UDP.
 pub fn header_size(stack: Stack) -> usize
@@ -51,17 +95,6 @@ pub fn place(direction: Direction, name: FieldName) -> usize
         FieldName::UdpLength => 352,
         FieldName::UdpChecksum => 368,
         _ => 384,
-    }
-}
-
-/// The bits of a field with a fixed width, and 0 for another.
-pub fn bits(name: FieldName) -> usize
-    ensures value { result ≡ bits_of name }
-    ensures bound { result ≤ 64 }
-{
-    match width(name) {
-        Some(bits) => usize::from(bits),
-        None => 0,
     }
 }
 

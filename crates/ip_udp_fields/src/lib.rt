@@ -12,5 +12,5 @@ mod tests;
 
 pub use joining::{content_fault, has_number, join, join_by_name};
 pub use rule_model::{JoinFault, Split, SplitFault};
-pub use splitting::split;
+pub use splitting::{extend_to_udp, has_ipv6_header, split};
 pub use sums::checksum;

@@ -1,6 +1,0 @@
-use Rattle.std.proofs.Common.{◌≡◌, drop}
-use Rattle.ip_udp_fields.specs.Join.{value_in}
-use Rattle.ip_udp_fields.proofs.joining.value_in.Given as goal
-
-abbrev pub invariant-loop-field : goal.invariant-loop-field
-invariant-loop-field l = value_in (drop l.field-index l.fields) l.name ≡ value_in l.fields l.name
