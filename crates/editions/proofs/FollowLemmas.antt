@@ -4,10 +4,11 @@ use Rattle.std.proofs.lemmas.Option.{get_or_from_slice_get, slice_get_within}
 use Rattle.std.proofs.lemmas.List.Sorted.{All-permutation, length_permutation, sum_by-IsPermutation, IsPermutation-sym}
 use Rattle.std.proofs.lemmas.List.Sums.{sum_by-take-le, count_by_more_yes}
 use Rattle.rule_model.specs.declared.finding.Finding.{Finding}
+use Rattle.rule_model.specs.Findings.{IsAdmitted}
 use Rattle.editions.specs.declared.listed.Listed.{Listed}
 use Rattle.editions.specs.declared.losses.Loss.{Loss}
 use Rattle.editions.specs.declared.losses.Loss.TheVariants.{IdGone, MeaningChanged, Revived}
-use Rattle.editions.specs.Data.{EditionData, lookup, NoIdTwice}
+use Rattle.editions.specs.Data.{EditionData, lookup, AreAdmitted, NoIdTwice}
 use Rattle.editions.specs.Losses.{HasSameRule, StaysRetired, IsFirstLoss, KeepsId}
 use Rattle.editions.specs.Follows.{Follows, IsWithinLimits, entry_octets, IsFirstRepeat, IsFirstFinding, number_not_next, too_large, id_twice, lost}
 use Rattle.editions.specs.Losses.{IsLowestLoss, number_of_loss}
@@ -124,6 +125,11 @@ Follows-sorted old n number rs listed rules sorted a b c follows p =
     (subst (λ xs. Follows old (record { number = number; rules = xs })) c
     (subst (λ xs. Follows (record { number = old.number; rules = xs }) (record { number = number; rules = listed })) b
     (subst (λ m. Follows (record { number = m; rules = rs }) (record { number = number; rules = listed })) a follows)))
+
+-- the sorted rules are admitted
+pub AreAdmitted-sorted : (listed rules sorted : List Listed) → listed ≡ rules → IsPermutation rules sorted → AreAdmitted listed → AreAdmitted sorted
+AreAdmitted-sorted listed rules sorted e p admitted =
+    All-permutation (λ listed. IsAdmitted listed.rule) rules sorted p (subst AreAdmitted e admitted)
 
 -- what follows an edition, with its rules sorted, is an edition
 pub IsEdition-next : (old : EditionData) (number : ℕ) (sorted : List Listed) → Follows old (record { number = number; rules = sorted }) → IsNonDecreasingBy (λ listed. listed.rule.id) sorted → EndsChain old → IsEdition (record { number = number; rules = sorted })

@@ -7,3 +7,6 @@ pub mod RepeatLemmas
 pub mod LossLemmas
 pub mod ByIdLemmas
 pub mod FollowedLemmas
+pub mod KeyLemmas
+pub mod SuspectLemmas
+pub mod BisectionLemmas

@@ -1,13 +1,14 @@
 -- The edition that comes next, as a function of the old one and of what is handed in.
-use Rattle.std.specs.Prelude.{ℕ, ◌+◌, ◌==◌, Bool, ◌&&◌, not, nat_le, if◌then◌else◌, List, [], ◌∷◌, ◌++◌, length, Option, Some, None, is_some, Result, Ok, Err}
+use Rattle.std.specs.Prelude.{ℕ, ◌≡◌, ◌↔◌, ◌+◌, ◌==◌, Bool, ◌&&◌, not, nat_le, if◌then◌else◌, List, [], ◌∷◌, ◌++◌, length, Option, Some, None, is_some, Result, Ok, Err}
 use Rattle.std.specs.List.{list_all}
 use Rattle.std.specs.Option.{option_map}
+use Rattle.std.specs.List.Sorted.{IsPermutation}
 use Rattle.rule_model.specs.declared.finding.Finding.{Finding}
 use Rattle.editions.specs.declared.listed.Listed.{Listed}
 use Rattle.editions.specs.declared.losses.Loss.{Loss}
 use Rattle.editions.specs.declared.losses.Loss.TheVariants.{IdGone, MeaningChanged, Revived}
 use Rattle.editions.specs.declared.losses.LostId.{LostId}
-use Rattle.editions.specs.Data.{EditionData, lookup}
+use Rattle.editions.specs.Data.{EditionData, lookup, IsAscending, NoIdTwice}
 use Rattle.editions.specs.Losses.{number_of_loss}
 use Rattle.editions.specs.Follows.{target_octets, finding}
 use Rattle.editions.specs.SameRules.{same_rule}
@@ -74,6 +75,14 @@ insert_by_id listed (first ∷ rules) =
 abbrev pub by_id : List Listed → List Listed
 by_id [] = []
 by_id (listed ∷ rules) = insert_by_id listed (by_id rules)
+
+-- the second list has the rules of the first, in strict ascending order of RuleID
+abbrev pub IsInOrder : List Listed → List Listed → Type 0
+IsInOrder rules sorted = IsPermutation rules sorted × IsAscending sorted
+
+-- where no RuleID stands twice, that is the one list of the rules in strict ascending order
+abbrev pub OneOrder : Type 0
+OneOrder = (rules sorted : List Listed) → NoIdTwice rules → IsInOrder rules sorted ↔ (sorted ≡ by_id rules)
 
 -- the edition, where there is no finding
 abbrev pub unless_found : Option Finding → EditionData → Result EditionData Finding

@@ -5,3 +5,6 @@ pub mod Chains
 pub mod SameRules
 pub mod Followed
 pub mod Faults
+pub mod Suspects
+pub mod Keys
+pub mod Tables

@@ -1,7 +1,7 @@
 //! What keeps rules from making the next edition.
 
-ghost use Rattle.std.specs.Prelude.{◌≡◌, MatchOption, is_some};
-ghost use Rattle.editions.specs.Data.{lookup, IsAscending, NoIdTwice};
+ghost use Rattle.std.specs.Prelude.{◌≡◌, IfNone, MatchOption, is_some};
+ghost use Rattle.editions.specs.Data.{lookup, AreAdmitted, IsAscending, NoIdTwice};
 ghost use Rattle.editions.specs.Follows.{Follows, IsFirstRepeat, IsFirstFinding};
 
 use crate::limits::is_within_limits;
@@ -41,7 +41,8 @@ fn finding(number: u8, id: u16) -> Finding
 /// The first finding that keeps the rules with this number from following the old edition.
 pub fn finding_of(old_number: u32, old: &[Listed], number: u32, rules: &[Listed]) -> Option<Finding>
     requires { IsAscending old.now }
-    ensures { MatchOption result
+    ensures admitted { IfNone result (AreAdmitted rules.now) }
+    ensures finding { MatchOption result
         (Follows (record { number = old_number; rules = old.now }) (record { number = number; rules = rules.now }))
         (IsFirstFinding (record { number = old_number; rules = old.now }) number rules.now) }
 {

@@ -3,10 +3,12 @@
 
 mod edition;
 mod findings;
+mod keys;
 pub mod laws;
 mod limits;
 mod listed;
 mod losses;
+mod tables;
 
 pub use edition::{Edition, FollowFault, follow};
 pub use listed::Listed;

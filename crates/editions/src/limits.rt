@@ -1,18 +1,13 @@
 //! The limits of an edition.
 
 ghost use Rattle.std.specs.Prelude.{◌≡◌, ◌-◌, ◌^◌, ◌≤◌, ◌↔◌, All, IsTrue, length, min, sum_by};
+ghost use Rattle.std.specs.Bool.{OnTrue};
+ghost use Rattle.editions.specs.Data.{AreAdmitted};
 ghost use Rattle.editions.specs.Follows.{entry_octets, target_octets, IsWithinLimits};
 
 use crate::listed::Listed;
 use rule_model::{Entry, Rule};
-
-const MAX_NUMBER: u32 = 256;
-
-const MAX_RULES: usize = 200;
-
-const MAX_ENTRIES: usize = 64;
-
-const MAX_TARGET_OCTETS: u64 = 262_144;
+use schc_ids::limits::{MAX_EDITIONS, MAX_ENTRIES, MAX_RULES, MAX_TARGET_BYTES};
 
 fn entry_octets(entry: &Entry) -> u64
     ensures { result ≡ min (entry_octets entry.now) (2 ^ 64 - 1) }
@@ -36,7 +31,8 @@ fn rule_octets(rule: &Rule) -> u64
 
 /// The bytes of all targets, each counted in whole bytes, up to the largest number.
 fn target_octets(rules: &[Listed]) -> u64
-    ensures { result ≡ min (target_octets rules.now) (2 ^ 64 - 1) }
+    ensures octets { result ≡ min (target_octets rules.now) (2 ^ 64 - 1) }
+    ensures admitted { AreAdmitted rules.now }
 {
     let mut octets = 0u64;
     for listed in rules {
@@ -55,10 +51,11 @@ fn all_short(rules: &[Listed]) -> bool
 
 /// Whether an edition with this number and these rules is within the limits.
 pub fn is_within_limits(number: u32, rules: &[Listed]) -> bool
-    ensures { IsTrue result ↔ IsWithinLimits number rules.now }
+    ensures within { IsTrue result ↔ IsWithinLimits number rules.now }
+    ensures admitted { OnTrue result (AreAdmitted rules.now) }
 {
-    number <= MAX_NUMBER
+    number <= MAX_EDITIONS
         && rules.len() <= MAX_RULES
         && all_short(rules)
-        && target_octets(rules) <= MAX_TARGET_OCTETS
+        && target_octets(rules) <= MAX_TARGET_BYTES
 }

@@ -1,7 +1,7 @@
 //! The rules of an edition.
 
 ghost use Rattle.std.specs.Prelude.{◌≡◌, option_copied};
-ghost use Rattle.editions.specs.Data.{lookup};
+ghost use Rattle.editions.specs.Data.{IsAscending, lookup};
 
 use rule_model::Admitted;
 use schc_bits::Same;
@@ -32,4 +32,15 @@ pub(crate) fn lookup(rules: &[Listed], id: u16) -> Option<&Listed>
     ensures { option_copied result ≡ lookup rules.now id }
 {
     rules.iter().find(|listed| id_of(listed) == id)
+}
+
+/// What is listed under the RuleID, in rules in ascending order of RuleID.
+pub(crate) fn lookup_sorted(rules: &[Listed], id: u16) -> Option<&Listed>
+    requires { IsAscending rules.now }
+    ensures { option_copied result ≡ lookup rules.now id }
+{
+    match rules.binary_search_by_key(&id, |listed| id_of(listed)) {
+        Ok(place) => Some(&rules[place]),
+        Err(_) => None,
+    }
 }

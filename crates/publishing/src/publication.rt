@@ -1,7 +1,10 @@
 //! Publication: rules that are handed in are admitted, and become the next edition.
 
 ghost use Rattle.std.specs.Prelude.{◌≡◌, [], ◌∷◌, ◌++◌, None, Ok, IfOk, IfErr, OnOk};
+ghost use Rattle.editions.specs.Data.{IsSound};
+ghost use Rattle.editions.specs.Faults.{IsMadeOf};
 ghost use Rattle.editions.specs.Followed.{followed};
+ghost use Rattle.editions.specs.Follows.{Follows};
 ghost use Rattle.publishing.specs.Published.{refusal, first_refusal, listed_rule, listed_rules, published};
 ghost use Rattle.publishing.specs.Faults.{IsFoundIn, IsFindingOf};
 ghost use Rattle.publishing.specs.declared.publication.PublishFault.TheVariants.{Memory};
@@ -77,6 +80,9 @@ fn followed_by(
     number: u32,
     rules: Vec<Listed>,
 ) -> Result<Edition, PublishFault>
+    ensures made { IfOk result (λ new. IsMadeOf number rules.items new) }
+    ensures follows { IfOk result (λ new. Follows old.now new) }
+    ensures sound { IfOk result (λ new. IsSound new) }
     ensures next { IfOk result (λ new. followed old.now number rules.items ≡ Ok new) }
     ensures finding { IfErr result (λ fault. IsFindingOf (followed old.now number rules.items) fault) }
 {
@@ -87,14 +93,18 @@ fn followed_by(
     }
 }
 
-/// The edition that is made of the one that is handed in, and follows the old one. The edition that
-/// is handed in stays as it is.
+/// The edition that is made of exactly the rules of the one that is handed in, each admitted, in
+/// ascending order of RuleID, and that follows the old one. The edition that is handed in stays as
+/// it is.
 ///
 /// # Errors
 /// Want of memory, or the first finding that holds: that of the first rule in the list's order that
 /// isn't admitted, and then what `editions::follow` finds.
 #[tactic(auto, unfolding(crate::specs::Published::published))]
 pub fn publish(alloc: Global, old: &Edition, raw: &RawEdition) -> Result<Edition, PublishFault>
+    ensures made { IfOk result (λ new. IsMadeOf raw.now.number (listed_rules raw.now.rules) new) }
+    ensures follows { IfOk result (λ new. Follows old.now new) }
+    ensures sound { IfOk result (λ new. IsSound new) }
     ensures next { IfOk result (λ new. published old.now raw.now ≡ Ok new) }
     ensures finding { IfErr result (λ fault. IsFindingOf (published old.now raw.now) fault) }
 {

@@ -26,7 +26,7 @@ impl From<AllocError> for AdmitFault {
     }
 }
 
-/// Admits the rule exactly where no finding holds.
+/// Admits the rule exactly where no finding holds. Where one is found the rule isn't admitted.
 ///
 /// # Errors
 /// The first finding that holds, in the order of their numbers, at its first entry; or want of

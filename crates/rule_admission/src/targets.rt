@@ -80,8 +80,8 @@ fn small_value(target: &Bits) -> u64
     ensures { result ≡ min (bits_value target.now) 255 }
 {
     let mut value = 0u64;
-    for bit in target.as_slice() {
-        value = (2 * value + u64::from(*bit)).min(255);
+    for i in 0..target.len() {
+        value = (2 * value + u64::from(target.bit(i))).min(255);
     }
     value
 }

@@ -1,8 +1,7 @@
 -- Hex digits of bits, and back.
-use Rattle.std.specs.Prelude.{ℕ, ◌≡◌, ◌+◌, ◌-◌, ◌*◌, ◌/◌, ◌^◌, ◌<◌, ◌≤◌, zero, suc, Bool, true, false, not, List, [], ◌∷◌, ◌++◌, length, take, drop, replicate, slice_index, Some, None}
-use Rattle.std.specs.List.{list_all}
+use Rattle.std.specs.Prelude.{ℕ, ◌≡◌, ◌+◌, ◌-◌, ◌*◌, ◌/◌, ◌^◌, ◌<◌, ◌≤◌, zero, suc, Bool, true, false, List, [], ◌∷◌, ◌++◌, length, take, drop, replicate, slice_index, Some, None}
 use Rattle.std.proofs.Common.{arith, ap, refl, sym, ◌∙◌, subst}
-use Rattle.std.proofs.lemmas.Bool.{false≢true, lt-ltb, le-ltb}
+use Rattle.std.proofs.lemmas.Bool.{lt-ltb, le-ltb}
 use Rattle.std.proofs.lemmas.List.{append_assoc, append-nil, length-append, length-replicate, length-drop, length-take-le, take-append-drop, nil_from_length}
 use Rattle.std.proofs.lemmas.Nat.{pow_pos}
 use Rattle.hex.specs.Hex.{hex_digit_value, lower_digits}
@@ -33,18 +32,20 @@ fitting-wide width bits h =
     subst (λ n. fitting width n ≡ Some wide) (bits_value-zeros (width - length bits) bits)
     (subst (λ w. fitting w (bits_value wide) ≡ Some wide) long (fitting-own wide))
 
-zero_value : (bits : List Bool) → list_all not bits ≡ true → bits_value bits ≡ 0
-zero_value [] h = refl
-zero_value (true ∷ bits) h = absurd (false≢true h)
-zero_value (false ∷ bits) h = omega (arith, zero_value bits h)
+-- no bit is set
+abbrev AreZero : List Bool → Type 0
+AreZero bits = bits ≡ replicate (length bits) false
 
-some_value : (bits : List Bool) → list_all not bits ≡ false → 0 < bits_value bits
-some_value [] h = absurd (false≢true (sym h))
-some_value (true ∷ bits) h = omega (arith, pow_pos (length bits))
-some_value (false ∷ bits) h = omega (arith, some_value bits h)
+zero_value : (bits : List Bool) → AreZero bits → bits_value bits ≡ 0
+zero_value bits none = subst (λ these. bits_value these ≡ 0) (sym none) (bits_value-replicate_false (length bits))
+
+some_value : (bits : List Bool) → ¬ AreZero bits → 0 < bits_value bits
+some_value [] other = absurd (other refl)
+some_value (true ∷ bits) other = omega (arith, pow_pos (length bits))
+some_value (false ∷ bits) other = omega (arith, some_value bits (λ none. other (ap (λ these. false ∷ these) none)))
 
 -- in fewer bits, where those that go are zero
-pub fitting-narrow : (width : ℕ) (front rest : List Bool) → length rest ≡ width → list_all not front ≡ true
+pub fitting-narrow : (width : ℕ) (front rest : List Bool) → length rest ≡ width → AreZero front
     → fitting width (bits_value (front ++ rest)) ≡ Some rest
 fitting-narrow width front rest long h =
     let same : bits_value (front ++ rest) ≡ bits_value rest = rw (bits_value-append front rest, zero_value front h) (omega arith) in
@@ -55,7 +56,7 @@ at_least zero w v h = absurd (omega arith)
 at_least (suc a) w v h = omega arith
 
 -- there is no room, where one of those that go isn't zero
-pub fitting-over : (width : ℕ) (front rest : List Bool) → length rest ≡ width → list_all not front ≡ false
+pub fitting-over : (width : ℕ) (front rest : List Bool) → length rest ≡ width → ¬ AreZero front
     → fitting width (bits_value (front ++ rest)) ≡ None
 fitting-over width front rest long h =
     let more : 2 ^ length rest ≤ bits_value front * 2 ^ length rest + bits_value rest = at_least (bits_value front) (2 ^ length rest) (bits_value rest) (some_value front h) in
@@ -64,18 +65,18 @@ fitting-over width front rest long h =
 
 -- the same, of bits that are cut at their last `width`
 pub fitting-cut : (width : ℕ) (bits : List Bool) → width < length bits → (front : List Bool) → front ≡ take (length bits - width) bits
-    → list_all not front ≡ true → fitting width (bits_value bits) ≡ Some (drop (length bits - width) bits)
+    → AreZero front → fitting width (bits_value bits) ≡ Some (drop (length bits - width) bits)
 fitting-cut width bits h front cut none =
     let long : length (drop (length bits - width) bits) ≡ width = length-drop (length bits - width) bits ∙ (omega arith) in
     subst (λ whole. fitting width (bits_value whole) ≡ Some (drop (length bits - width) bits)) (take-append-drop (length bits - width) bits)
-    (fitting-narrow width (take (length bits - width) bits) (drop (length bits - width) bits) long (subst (λ f. list_all not f ≡ true) cut none))
+    (fitting-narrow width (take (length bits - width) bits) (drop (length bits - width) bits) long (subst AreZero cut none))
 
 pub fitting-none : (width : ℕ) (bits : List Bool) → width < length bits → (front : List Bool) → front ≡ take (length bits - width) bits
-    → list_all not front ≡ false → fitting width (bits_value bits) ≡ None
+    → ¬ AreZero front → fitting width (bits_value bits) ≡ None
 fitting-none width bits h front cut some =
     let long : length (drop (length bits - width) bits) ≡ width = length-drop (length bits - width) bits ∙ (omega arith) in
     subst (λ whole. fitting width (bits_value whole) ≡ None) (take-append-drop (length bits - width) bits)
-    (fitting-over width (take (length bits - width) bits) (drop (length bits - width) bits) long (subst (λ f. list_all not f ≡ false) cut some))
+    (fitting-over width (take (length bits - width) bits) (drop (length bits - width) bits) long (subst (λ f. ¬ AreZero f) cut some))
 
 -- ---- digits
 

@@ -2,7 +2,7 @@
 use Rattle.std.specs.Prelude.{ℕ, ◌≡◌, ◌+◌, ◌*◌, ◌/◌, ◌%◌, ◌^◌, nat_le, nat_lt, Bool, true, false, if◌then◌else◌, List, [], ◌∷◌, ◌++◌, length, Option, Some, None, codes, IsSome, IfOk, Result, Ok, Err}
 use Rattle.std.specs.List.{AllByRecursion}
 use Rattle.std.specs.Option.{option_and_then}
-use Rattle.std.proofs.Common.{arith, refl, subst}
+use Rattle.std.proofs.Common.{arith, refl, sym, subst}
 use Rattle.std.proofs.lemmas.Bool.{eqb-true}
 use Rattle.std.proofs.lemmas.List.{length-append}
 use Rattle.std.proofs.lemmas.Option.{none-some, same_Some, option_and_then_some, cond_some}
@@ -31,7 +31,7 @@ use Rattle.rule_json.specs.Words.{direction_of, indicator_of, action_of}
 use Rattle.rule_json.specs.Digits.{iid_of, packet_of, digit_bits, fitting, fixed_target, bytes_target, target_of}
 use Rattle.rule_json.specs.Layout.{text_in, length_in, operator_in, targets_in, live_in, entry_in, rule_in, edition_in}
 use Rattle.rule_json.specs.Written.{TargetCanBeSpelt, EntryCanBeSpelt, RuleCanBeSpelt, CanBeSpelt}
-use Rattle.rule_json.proofs.NameLemmas.{text_of-found}
+use Rattle.schc_ids.proofs.TextsLemmas.{text_of-name_of_text}
 
 -- ---- lists
 
@@ -135,7 +135,7 @@ with-spelt (Some n) (Some l) (Some p) (Some d) (Some o) (Some a) targets named s
 name-spelt : (o : Option Data) (name : FieldName) → option_and_then (text_in name_of_text) o ≡ Some name → IsSome (text_of name)
 name-spelt o name h =
     option_and_then_some (text_in name_of_text) o name h (λ v _ e.
-    option_and_then_some name_of_text (as_str v) name e (λ text _ e2. text_of-found text name e2))
+    option_and_then_some name_of_text (as_str v) name e (λ text _ e2. subst IsSome (sym (text_of-name_of_text text name e2)) refl))
 
 entry-spelt : (d : Data) (entry : EntryData) → entry_in d ≡ Some entry → EntryCanBeSpelt entry
 unfolding entry_in

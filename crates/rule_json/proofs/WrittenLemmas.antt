@@ -33,7 +33,7 @@ use Rattle.rule_json.specs.Digits.{digit_bits, fixed_target, bytes_target, targe
 use Rattle.rule_json.specs.Layout.{text_in, length_in, operator_with, operator_in, targets_in, entry_in, live_in, rule_in, edition_in}
 use Rattle.rule_json.specs.Written.{list_data, length_data, msb_bits, with_value, target_data, entry_object, entry_data, rule_data, edition_data, edition_text, TargetCanBeSpelt, EntryCanBeSpelt}
 use Rattle.rule_json.proofs.DigitsLemmas.{fitting-own, bits_value-zeros, length-first_digits, digit_bits-first_digits}
-use Rattle.rule_json.proofs.NameLemmas.{name_of_text-text_of}
+use Rattle.schc_ids.proofs.TextsLemmas.{name_of_text-text_of}
 
 -- ---- lists and members
 

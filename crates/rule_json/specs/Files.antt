@@ -1,8 +1,10 @@
 -- The layout of the files of the commands: contexts and work.
-use Rattle.std.specs.Prelude.{ℕ, ◌^◌, ◌&&◌, ◌==◌, nat_le, not, Bool, true, if◌then◌else◌, List, [], ◌∷◌, length, Option, Some, None, codes}
+use Rattle.std.specs.Prelude.{ℕ, ◌+◌, ◌^◌, ◌&&◌, ◌==◌, nat_le, not, Bool, true, if◌then◌else◌, List, [], ◌∷◌, length, Option, Some, None, codes}
 use Rattle.std.specs.List.{list_any}
 use Rattle.serde_json.specs.Data.{Data}
 use Rattle.serde_json.specs.Find.{get, as_object}
+use Rattle.schc_ids.specs.Limits.{min_mtu, max_mtu, max_devices}
+use Rattle.schc_ids.specs.Params.{default_params}
 use Rattle.rule_model.specs.declared.raw.DeviceLine.{DeviceLine}
 use Rattle.rule_model.specs.RawData.{RawEditionData}
 use Rattle.rule_json.specs.Data.{ContextData, WorkData}
@@ -14,12 +16,12 @@ use Rattle.rule_json.specs.Layout.{text_in, edition_in}
 -- the most bytes of a frame, which are 15 to 242
 unfoldable pub mtu_number : Data → Option ℕ
 mtu_number d = do
-  mtu ← number_below 243 d
-  if nat_le 15 mtu then Some mtu else None
+  mtu ← number_below (max_mtu + 1) d
+  if nat_le min_mtu mtu then Some mtu else None
 
--- `mtu` of a device, 242 where nothing is said
+-- `mtu` of a device, the highest where nothing is said
 unfoldable pub mtu_in : Data → Option ℕ
-mtu_in d = default_or 242 mtu_number (get (codes "mtu") d)
+mtu_in d = default_or max_mtu mtu_number (get (codes "mtu") d)
 
 -- a device
 unfoldable pub device_in : Data → Option DeviceLine
@@ -28,7 +30,7 @@ device_in d = do
   dev ← member_in (codes "dev-iid") (text_in iid_of) d
   app ← member_in (codes "app-iid") (text_in iid_of) d
   mtu ← mtu_in d
-  Some (record { number = number; params = record { iids = record { dev = dev; app = app }; mtu = mtu } })
+  Some (record { number = number; params = record (default_params (record { dev = dev; app = app })) { mtu = mtu } })
 
 -- no device has the number of a later one
 abbrev pub have_own_numbers : List DeviceLine → Bool
@@ -37,7 +39,7 @@ have_own_numbers (device ∷ devices) = not (list_any (λ other. other.number ==
 
 -- at most 1,024 devices, each with a number of its own
 unfoldable pub distinct_devices : List DeviceLine → Option (List DeviceLine)
-distinct_devices devices = if nat_le (length devices) 1024 && have_own_numbers devices then Some devices else None
+distinct_devices devices = if nat_le (length devices) max_devices && have_own_numbers devices then Some devices else None
 
 -- `devices` of a context, which may be absent and is then empty
 unfoldable pub devices_in : Data → Option (List DeviceLine)

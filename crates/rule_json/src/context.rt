@@ -21,6 +21,7 @@ use crate::fault::JsonFault;
 use crate::values::{FromJson, list_from, small_number};
 use rule_model::{DeviceLine, RawEdition};
 use schc_bits::ItemList;
+use schc_ids::limits::{MAX_DEVICES, MAX_MTU, is_mtu};
 use schc_ids::{EndParams, Iids};
 use serde_json::Value;
 use std::alloc::Global;
@@ -47,11 +48,7 @@ fn mtu_number(value: &Value) -> Option<u16>
     ensures { result ≡ mtu_number (view value.now) }
 {
     let mtu = small_number(value)?;
-    if 15 <= mtu && mtu <= 242 {
-        Some(mtu)
-    } else {
-        None
-    }
+    if is_mtu(mtu) { Some(mtu) } else { None }
 }
 
 /// The most bytes of a device's frames.
@@ -61,7 +58,7 @@ fn mtu_in(device: &Value) -> Option<u16>
 {
     match device.get("mtu") {
         Some(mtu) => mtu_number(mtu),
-        None => Some(242),
+        None => Some(MAX_MTU),
     }
 }
 
@@ -74,13 +71,9 @@ fn device_in(value: &Value) -> Option<DeviceLine>
     let dev = identifier_in(value, "dev-iid")?;
     let app = identifier_in(value, "app-iid")?;
     let mtu = mtu_in(value)?;
-    Some(DeviceLine {
-        number,
-        params: EndParams {
-            iids: Iids { dev, app },
-            mtu,
-        },
-    })
+    let mut params = EndParams::with_defaults(Iids { dev, app });
+    params.mtu = mtu;
+    Some(DeviceLine { number, params })
 }
 
 impl FromJson for DeviceLine {
@@ -139,7 +132,7 @@ fn devices_in(alloc: Global, context: &Value) -> Result<ItemList<DeviceLine>, Js
     ensures { Gives (λ devices. devices.items) result (devices_in (view context.now)) }
 {
     let devices = optional_list::<DeviceLine>(alloc, context.get("devices"))?;
-    if devices.len() > 1024 {
+    if devices.len() > MAX_DEVICES {
         return Err(JsonFault::NotLayout);
     }
     if !have_own_numbers(devices.as_slice()) {

@@ -1,7 +1,6 @@
 //! Hex digits of targets, identifiers and packets.
 
-ghost use Rattle.std.specs.Prelude.{◌≡◌, ◌/◌, ◌^◌, ◌<◌, false, not, [], ◌∷◌, ◌++◌, length, replicate, slice_index, IfOk, OnOk, IfSome, string_bytes};
-ghost use Rattle.std.specs.List.{list_all};
+ghost use Rattle.std.specs.Prelude.{◌≡◌, ◌/◌, ◌^◌, ◌<◌, false, [], ◌∷◌, ◌++◌, length, replicate, slice_index, IfOk, OnOk, IfSome, string_bytes};
 ghost use Rattle.hex.specs.Hex.{hex_digit_value, lower_digits};
 ghost use Rattle.schc_bits.specs.Bits.{bits_value};
 ghost use Rattle.serde_json.specs.View.{view};
@@ -24,7 +23,7 @@ use crate::fault::JsonFault;
 use crate::work::Packet;
 use hex::{FromHex, FromHexError};
 use rule_model::Length;
-use schc_bits::{Bits, ItemList, number_of};
+use schc_bits::{Bits, ItemList, Part};
 use serde_json::Value;
 use std::alloc::{AllocError, Global};
 
@@ -73,30 +72,23 @@ fn zeros(alloc: Global, count: usize) -> Result<Bits, AllocError>
     Ok(bits)
 }
 
-/// True exactly where no bit is set.
-fn all_zero(bits: &[bool]) -> bool
-    ensures { result ≡ list_all not bits.now }
-{
-    bits.iter().all(|bit| !*bit)
-}
-
 /// The number that the bits write, in `width` bits.
 ///
 /// # Errors
 /// The number isn't below 2^width; or want of memory.
-fn fitting(alloc: Global, width: usize, bits: &[bool]) -> Result<Bits, JsonFault>
+fn fitting(alloc: Global, width: usize, bits: &Part<'_>) -> Result<Bits, JsonFault>
     ensures { Gives (λ fitted. fitted) result (fitting width (bits_value bits.now)) }
 {
     if bits.len() <= width {
         let mut wide = zeros(alloc, width - bits.len())?;
-        wide.extend_from_slice(bits)?;
+        wide.extend_from_part(bits)?;
         return Ok(wide);
     }
-    let (front, rest) = bits.split_at(bits.len() - width);
-    if !all_zero(front) {
+    let over = bits.len() - width;
+    if !bits.front(over).is_zero() {
         return Err(JsonFault::NotLayout);
     }
-    Ok(Bits::from_slice(alloc, rest)?)
+    Ok(bits.after(over).to_bits(alloc)?)
 }
 
 /// The target of a field of `width` bits.
@@ -113,7 +105,7 @@ fn fixed_target(alloc: Global, width: usize, text: &[u8]) -> Result<Bits, JsonFa
         return Err(JsonFault::NotLayout);
     }
     let bits = digit_bits(alloc, text)?;
-    fitting(alloc, width, bits.as_slice())
+    fitting(alloc, width, &bits.as_part())
 }
 
 /// A target of whole bytes.
@@ -163,15 +155,14 @@ fn push_digit(text: &mut String, value: u64) -> Result<(), AllocError>
 ///
 /// # Errors
 /// Want of memory.
-fn digits(alloc: Global, bits: &[bool]) -> Result<String, AllocError>
+fn digits(alloc: Global, bits: &Part<'_>) -> Result<String, AllocError>
     ensures { IfOk result (λ text. string_bytes text ≡ first_digits (length bits.now / 4) bits.now) }
 {
     let mut text = String::new(alloc);
-    let mut rest = bits;
+    let mut rest = bits.after(0);
     while rest.len() >= 4 {
-        let (first, later) = rest.split_at(4);
-        push_digit(&mut text, number_of(first))?;
-        rest = later;
+        push_digit(&mut text, rest.front(4).number())?;
+        rest = rest.after(4);
     }
     Ok(text)
 }
@@ -181,12 +172,12 @@ fn digits(alloc: Global, bits: &[bool]) -> Result<String, AllocError>
 /// # Errors
 /// Want of memory.
 #[tactic(auto, unfolding(crate::specs::Digits::target_text))]
-pub(crate) fn target_text(alloc: Global, bits: &[bool]) -> Result<String, AllocError>
+pub(crate) fn target_text(alloc: Global, bits: &Bits) -> Result<String, AllocError>
     ensures { IfOk result (λ text. string_bytes text ≡ target_text bits.now) }
 {
     let mut filled = zeros(alloc, (4 - bits.len() % 4) % 4)?;
-    filled.extend_from_slice(bits)?;
-    digits(alloc, filled.as_slice())
+    filled.extend(bits)?;
+    digits(alloc, &filled.as_part())
 }
 
 /// The interface identifier that 16 hex digits write.

@@ -14,10 +14,10 @@ use crate::fault::JsonFault;
 use crate::values::{FromJson, list_from};
 use crate::words::direction_of;
 use rule_model::RawEdition;
-use schc_bits::{ItemList, Octets};
+use schc_bits::{CopyItem, ItemList, Octets};
 use schc_ids::{Direction, Iids};
 use serde_json::Value;
-use std::alloc::Global;
+use std::alloc::{AllocError, Global};
 use std::marker::Model;
 
 /// A packet, seen as its bytes.
@@ -32,6 +32,14 @@ impl Model for Packet {
     ghost Value = { List ℕ };
 
     ghost view = { λ p. p.bytes.items };
+}
+
+impl CopyItem for Packet {
+    fn copy_item(&self, alloc: Global) -> Result<Packet, AllocError> {
+        let mut bytes = Octets::new(alloc);
+        bytes.extend_from(self.bytes.as_slice())?;
+        Ok(Packet { bytes })
+    }
 }
 
 /// Work: the editions that are published, and packets of one direction with the identifiers of

@@ -76,7 +76,7 @@ fn target_list(alloc: Global, targets: &[Bits]) -> Result<Value, AllocError>
 {
     let mut values = Vec::new(alloc);
     for target in targets {
-        values.push(Value::String(target_text(alloc, target.as_slice())?))?;
+        values.push(Value::String(target_text(alloc, target)?))?;
     }
     Ok(Value::Array(values))
 }
