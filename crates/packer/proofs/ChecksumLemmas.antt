@@ -13,9 +13,9 @@ use Rattle.schc_ids.specs.declared.names.FieldName.TheVariants.{UdpDevPort, UdpA
 use Rattle.schc_ids.specs.declared.names.Stack.TheVariants as stack
 use Rattle.schc_ids.specs.Names.{same_name, ip_fields, fields_of_stack}
 use Rattle.rule_model.specs.declared.value.FieldValue.{FieldValue}
-use Rattle.ip_udp_fields.specs.Layout.{bits_of}
+use Rattle.ip_udp_fields.specs.Layout.{mirrored, bits_of}
 use Rattle.ip_udp_fields.specs.Checksum.{checksum_of}
-use Rattle.ip_udp_fields.specs.Join.{value_of, mirrored, values_in, header_bits}
+use Rattle.ip_udp_fields.specs.Join.{value_of, values_in, header_bits}
 use Rattle.ip_udp_fields.proofs.SpanLemmas.{span-headers, HaveWidths, length-values_in, mirror}
 use Rattle.packer.specs.Unpacking.{two_bytes, with_checksum, joined}
 use Rattle.packer.proofs.JoinedLemmas.{listed, AreWide, AreBytes-joined}
@@ -35,53 +35,53 @@ values_in-append way fields (name ∷ front) back =
     ∙ sym (append_assoc (value_of fields (mirrored way name)) (values_in way fields front) (values_in way fields back))
 
 -- the checksum stands last
-last_value : (way : Direction) (values : FieldName → List Bool) → values_in way (listed stack.IpUdp values) (UdpChecksum ∷ []) ≡ values UdpChecksum
+last_value : (way : Direction) (values : FieldName → List Bool) → values_in way (listed stack.IpUdp way values) (UdpChecksum ∷ []) ≡ values UdpChecksum
 last_value Up values = append-nil (values UdpChecksum)
 last_value Down values = append-nil (values UdpChecksum)
 
-pub values-split : (way : Direction) (values : FieldName → List Bool) → values_in way (listed stack.IpUdp values) (fields_of_stack stack.IpUdp) ≡ values_in way (listed stack.IpUdp values) front_names ++ values UdpChecksum
+pub values-split : (way : Direction) (values : FieldName → List Bool) → values_in way (listed stack.IpUdp way values) (fields_of_stack stack.IpUdp) ≡ values_in way (listed stack.IpUdp way values) front_names ++ values UdpChecksum
 values-split way values =
-    values_in-append way (listed stack.IpUdp values) front_names (UdpChecksum ∷ [])
-    ∙ ap (λ (bits : List Bool). values_in way (listed stack.IpUdp values) front_names ++ bits) (last_value way values)
+    values_in-append way (listed stack.IpUdp way values) front_names (UdpChecksum ∷ [])
+    ∙ ap (λ (bits : List Bool). values_in way (listed stack.IpUdp way values) front_names ++ bits) (last_value way values)
 
-pub front-same : (way : Direction) (checksum : ℕ) (values : FieldName → List Bool) → values_in way (listed stack.IpUdp (summed checksum values)) front_names ≡ values_in way (listed stack.IpUdp values) front_names
+pub front-same : (way : Direction) (checksum : ℕ) (values : FieldName → List Bool) → values_in way (listed stack.IpUdp way (summed checksum values)) front_names ≡ values_in way (listed stack.IpUdp way values) front_names
 front-same Up checksum values = refl
 front-same Down checksum values = refl
 
-listed_widths : (way : Direction) (values : FieldName → List Bool) → AreWide stack.IpUdp values → HaveWidths way (listed stack.IpUdp values) (fields_of_stack stack.IpUdp)
-listed_widths Up values w = mirror (λ n. length (value_of (listed stack.IpUdp values) n) ≡ bits_of n) stack.IpUdp Up tt w
-listed_widths Down values w = mirror (λ n. length (value_of (listed stack.IpUdp values) n) ≡ bits_of n) stack.IpUdp Down tt w
+listed_widths : (way : Direction) (values : FieldName → List Bool) → AreWide stack.IpUdp values → HaveWidths way (listed stack.IpUdp way values) (fields_of_stack stack.IpUdp)
+listed_widths Up values w = mirror (λ n. length (value_of (listed stack.IpUdp Up values) n) ≡ bits_of n) stack.IpUdp Up tt w
+listed_widths Down values w = mirror (λ n. length (value_of (listed stack.IpUdp Down values) n) ≡ bits_of n) stack.IpUdp Down tt w
 
 checksum_width : (values : FieldName → List Bool) → AreWide stack.IpUdp values → length (values UdpChecksum) ≡ 16
 checksum_width values w = w.1.1.1.1.1.1.1.1.1.1.1.1.1.0
 
-headers_length : (way : Direction) (values : FieldName → List Bool) → AreWide stack.IpUdp values → length (values_in way (listed stack.IpUdp values) (fields_of_stack stack.IpUdp)) ≡ 384
+headers_length : (way : Direction) (values : FieldName → List Bool) → AreWide stack.IpUdp values → length (values_in way (listed stack.IpUdp way values) (fields_of_stack stack.IpUdp)) ≡ 384
 headers_length way values w =
-    omega (arith, length-values_in way (listed stack.IpUdp values) (fields_of_stack stack.IpUdp) 0 384 (span-headers stack.IpUdp way tt) (listed_widths way values w))
+    omega (arith, length-values_in way (listed stack.IpUdp way values) (fields_of_stack stack.IpUdp) 0 384 (span-headers stack.IpUdp way tt) (listed_widths way values w))
 
-front_length : (way : Direction) (values : FieldName → List Bool) → AreWide stack.IpUdp values → length (values_in way (listed stack.IpUdp values) front_names) ≡ 368
+front_length : (way : Direction) (values : FieldName → List Bool) → AreWide stack.IpUdp values → length (values_in way (listed stack.IpUdp way values) front_names) ≡ 368
 front_length way values w =
-    let whole : length (values_in way (listed stack.IpUdp values) front_names ++ values UdpChecksum) ≡ 384 =
+    let whole : length (values_in way (listed stack.IpUdp way values) front_names ++ values UdpChecksum) ≡ 384 =
     ap (λ (bits : List Bool). length bits) (sym (values-split way values)) ∙ headers_length way values w
     in
-    omega (arith, length-append (values_in way (listed stack.IpUdp values) front_names) (values UdpChecksum), whole, checksum_width values w)
+    omega (arith, length-append (values_in way (listed stack.IpUdp way values) front_names) (values UdpChecksum), whole, checksum_width values w)
 
 -- the bits of the packet
-joined_bits : (way : Direction) (values : FieldName → List Bool) (payload : List ℕ) → AreWide stack.IpUdp values → octets (joined stack.IpUdp way (listed stack.IpUdp values) payload) ≡ values_in way (listed stack.IpUdp values) front_names ++ (values UdpChecksum ++ octets payload)
+joined_bits : (way : Direction) (values : FieldName → List Bool) (payload : List ℕ) → AreWide stack.IpUdp values → octets (joined stack.IpUdp way (listed stack.IpUdp way values) payload) ≡ values_in way (listed stack.IpUdp way values) front_names ++ (values UdpChecksum ++ octets payload)
 unfolding joined header_bits
 joined_bits way values payload w =
-    let bits : List Bool = values_in way (listed stack.IpUdp values) (fields_of_stack stack.IpUdp) in
+    let bits : List Bool = values_in way (listed stack.IpUdp way values) (fields_of_stack stack.IpUdp) in
     let whole : length bits % 8 ≡ 0 = omega (arith, headers_length way values w) in
     octets-append (bytes_of (padded bits)) payload
     ∙ ap (λ (x : List Bool). x ++ octets payload) (octets-bytes_of-padded bits ∙ padded-whole bits whole ∙ values-split way values)
-    ∙ append_assoc (values_in way (listed stack.IpUdp values) front_names) (values UdpChecksum) (octets payload)
+    ∙ append_assoc (values_in way (listed stack.IpUdp way values) front_names) (values UdpChecksum) (octets payload)
 
 -- the bytes before the checksum
-pub front-listed : (way : Direction) (values : FieldName → List Bool) (payload : List ℕ) → AreWide stack.IpUdp values → octets (take 46 (joined stack.IpUdp way (listed stack.IpUdp values) payload)) ≡ values_in way (listed stack.IpUdp values) front_names
+pub front-listed : (way : Direction) (values : FieldName → List Bool) (payload : List ℕ) → AreWide stack.IpUdp values → octets (take 46 (joined stack.IpUdp way (listed stack.IpUdp way values) payload)) ≡ values_in way (listed stack.IpUdp way values) front_names
 front-listed way values payload w =
-    sym (take-octets 46 (joined stack.IpUdp way (listed stack.IpUdp values) payload))
+    sym (take-octets 46 (joined stack.IpUdp way (listed stack.IpUdp way values) payload))
     ∙ ap (λ (bits : List Bool). take 368 bits) (joined_bits way values payload w)
-    ∙ take_at (values_in way (listed stack.IpUdp values) front_names) (values UdpChecksum ++ octets payload) 368 (front_length way values w)
+    ∙ take_at (values_in way (listed stack.IpUdp way values) front_names) (values UdpChecksum ++ octets payload) 368 (front_length way values w)
 
 two_bytes_bits : (number : ℕ) → octets (two_bytes number) ≡ number_bits 16 number
 two_bytes_bits number =
@@ -113,12 +113,12 @@ summed_wide checksum values (a, (b, (c, (d, (e, (f, (g, (h, (i, (j, (k, (l, (m, 
     (a, (b, (c, (d, (e, (f, (g, (h, (i, (j, (k, (l, (m, (length-number_bits 16 checksum, tt))))))))))))))
 
 -- put into the bytes, the checksum is put into the fields
-pub with_checksum-listed : (way : Direction) (values : FieldName → List Bool) (payload : List ℕ) → AreWide stack.IpUdp values → AreBytes payload → drop 48 (joined stack.IpUdp way (listed stack.IpUdp values) payload) ≡ payload → with_checksum (joined stack.IpUdp way (listed stack.IpUdp values) payload) ≡ joined stack.IpUdp way (listed stack.IpUdp (summed (checksum_of (joined stack.IpUdp way (listed stack.IpUdp values) payload)) values)) payload
+pub with_checksum-listed : (way : Direction) (values : FieldName → List Bool) (payload : List ℕ) → AreWide stack.IpUdp values → AreBytes payload → drop 48 (joined stack.IpUdp way (listed stack.IpUdp way values) payload) ≡ payload → with_checksum (joined stack.IpUdp way (listed stack.IpUdp way values) payload) ≡ joined stack.IpUdp way (listed stack.IpUdp way (summed (checksum_of (joined stack.IpUdp way (listed stack.IpUdp way values) payload)) values)) payload
 unfolding with_checksum
 with_checksum-listed way values payload w b rest =
-    let packet : List ℕ = joined stack.IpUdp way (listed stack.IpUdp values) payload in
+    let packet : List ℕ = joined stack.IpUdp way (listed stack.IpUdp way values) payload in
     let checksum : ℕ = checksum_of packet in
-    let front : List Bool = values_in way (listed stack.IpUdp values) front_names in
+    let front : List Bool = values_in way (listed stack.IpUdp way values) front_names in
     let new : FieldName → List Bool = summed checksum values in
     let new_wide : AreWide stack.IpUdp new = summed_wide checksum values w in
     let taken : octets (take 46 packet) ≡ front = front-listed way values payload w in
@@ -130,11 +130,11 @@ with_checksum-listed way values payload w b rest =
     ∙ ap (λ (bits : List Bool). bits ++ octets (drop 48 packet)) (two_bytes_bits checksum)
     ∙ ap (λ (bytes : List ℕ). number_bits 16 checksum ++ octets bytes) rest)
     in
-    let made : octets (joined stack.IpUdp way (listed stack.IpUdp new) payload) ≡ front ++ (number_bits 16 checksum ++ octets payload) =
+    let made : octets (joined stack.IpUdp way (listed stack.IpUdp way new) payload) ≡ front ++ (number_bits 16 checksum ++ octets payload) =
     joined_bits way new payload new_wide ∙ ap (λ (bits : List Bool). bits ++ (number_bits 16 checksum ++ octets payload)) (front-same way checksum values)
     in
-    octets-injective (take 46 packet ++ (two_bytes checksum ++ drop 48 packet)) (joined stack.IpUdp way (listed stack.IpUdp new) payload)
-    (AreBytes-with_checksum packet (AreBytes-joined stack.IpUdp way (listed stack.IpUdp values) payload b)) (AreBytes-joined stack.IpUdp way (listed stack.IpUdp new) payload b) (written ∙ sym made)
+    octets-injective (take 46 packet ++ (two_bytes checksum ++ drop 48 packet)) (joined stack.IpUdp way (listed stack.IpUdp way new) payload)
+    (AreBytes-with_checksum packet (AreBytes-joined stack.IpUdp way (listed stack.IpUdp way values) payload b)) (AreBytes-joined stack.IpUdp way (listed stack.IpUdp way new) payload b) (written ∙ sym made)
 
 -- a part of the front
 front_part : (place count more : ℕ) (bytes : List ℕ) → take count (drop place bytes) ≡ take count (drop place (take (place + (count + more)) bytes))

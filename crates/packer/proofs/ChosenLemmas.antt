@@ -1,7 +1,7 @@
 -- The form that is written is the one that is chosen.
 use Rattle.std.specs.Prelude.{ℕ, ◌≡◌, ◌<◌, ◌≤◌, ◌⊎◌, zero, suc, Bool, true, List, [], ◌∷◌, ◌++◌, length, drop, Option, Some, None, Contains}
 use Rattle.std.proofs.Common.{arith, ap, refl, sym, ◌∙◌, subst, inl, inr}
-use Rattle.std.proofs.lemmas.Bool.{cases_Bool, cases_lt}
+use Rattle.std.proofs.lemmas.Bool.{cases_Bool}
 use Rattle.schc_bits.specs.Bits.{number_bits, octets, AreBytes}
 use Rattle.schc_ids.specs.declared.ends.Direction.{Direction}
 use Rattle.schc_ids.specs.declared.ends.Iids.{Iids}
@@ -13,13 +13,14 @@ use Rattle.rule_model.specs.Tests.{does_match}
 use Rattle.rule_model.proofs.TestLemmas.{does_match-true, does_match-from}
 use Rattle.rule_model.proofs.SizedLemmas.{Contains-first, Contains-rest}
 use Rattle.editions.specs.declared.listed.Listed.{Listed}
-use Rattle.editions.specs.Data.{EditionData, IsAscending}
+use Rattle.editions.specs.Data.{EditionData}
 use Rattle.packer.specs.Packets.{split_of, computed_over}
 use Rattle.packer.specs.Schc.{IsCandidate, IsNoLonger, IsChosen}
 use Rattle.packer.specs.Schc.IsChosen.{by_rule, by_none}
-use Rattle.packer.specs.Packing.{FormData, written_form, matched_form, form_by, shorter, shortest, form_or_whole, packed}
+use Rattle.packer.specs.Packing.{FormData, written_form, matched_form, form_by, candidate_of, is_preferred, shorter, shortest, form_or_whole, packed}
 use Rattle.packer.specs.Laws.{PacksChosen}
 use Rattle.packer.proofs.SplitLemmas.{split_of-packet, packet-split_of, packet-one}
+use Rattle.packer.proofs.FirstLemmas.{ComesFirst, preferred-true, preferred-false, first-trans}
 use Rattle.packer.proofs.ShorterLemmas.{shorter-first, shorter-later, shorter-both}
 
 -- the form of a split packet that the rule matches
@@ -37,14 +38,14 @@ matched_form-some rule iids way packet (Some split) f e =
     ]
 
 -- a form under a listed rule is of a live rule that matches
-record IsForm (iids : Iids) (way : Direction) (packet : List ℕ) (listed : Listed) (f : FormData) : Type 0 where
-  split : SplitData
-  live : listed.live ≡ true
-  is_split : split_of (stack_of listed.rule) way packet ≡ Some split
-  passes : does_match listed.rule iids way split.fields (computed_over (stack_of listed.rule) packet) ≡ true
-  is : f ≡ written_form listed.rule way packet split
+pub record IsForm (iids : Iids) (way : Direction) (packet : List ℕ) (listed : Listed) (f : FormData) : Type 0 where
+  pub split : SplitData
+  pub live : listed.live ≡ true
+  pub is_split : split_of (stack_of listed.rule) way packet ≡ Some split
+  pub passes : does_match listed.rule iids way split.fields (computed_over (stack_of listed.rule) packet) ≡ true
+  pub is : f ≡ written_form listed.rule way packet split
 
-form-parts : (iids : Iids) (way : Direction) (packet : List ℕ) (listed : Listed) (f : FormData) → form_by iids way packet listed ≡ Some f → IsForm iids way packet listed f
+pub form-parts : (iids : Iids) (way : Direction) (packet : List ℕ) (listed : Listed) (f : FormData) → form_by iids way packet listed ≡ Some f → IsForm iids way packet listed f
 unfolding form_by
 form-parts iids way packet listed f e =
     elim (cases_Bool listed.live) [
@@ -107,19 +108,11 @@ shortest-none iids way packet (listed ∷ rules) e other among =
     ]
 
 -- the form is of one of the rules, and no other form is shorter, or as short with a lower RuleID
-record IsShortest (iids : Iids) (way : Direction) (packet : List ℕ) (rules : List Listed) (f : FormData) : Type 0 where
-  listed : Listed
-  among : Contains rules listed
-  form : form_by iids way packet listed ≡ Some f
-  least : (other : Listed) (g : FormData) → Contains rules other → form_by iids way packet other ≡ Some g → IsNoLonger f.rule_id f.bits g.rule_id g.bits
-
--- the RuleIDs of the rest are higher
-later-higher : (listed : Listed) (rules : List Listed) → IsAscending (listed ∷ rules) → (other : Listed) → Contains rules other → listed.rule.id < other.rule.id
-later-higher listed rules rising other (k, bound, same) =
-    subst (λ (other : Listed). listed.rule.id < other.rule.id) same (rising 0 (suc k) other (omega arith) (omega arith))
-
-later-ascending : (listed : Listed) (rules : List Listed) → IsAscending (listed ∷ rules) → IsAscending rules
-later-ascending listed rules rising i j d l k = rising (suc i) (suc j) d (omega arith) (omega arith)
+pub record IsShortest (iids : Iids) (way : Direction) (packet : List ℕ) (rules : List Listed) (f : FormData) : Type 0 where
+  pub listed : Listed
+  pub among : Contains rules listed
+  pub form : form_by iids way packet listed ≡ Some f
+  pub least : (other : Listed) (g : FormData) → Contains rules other → form_by iids way packet other ≡ Some g → IsNoLonger f.rule_id f.bits g.rule_id g.bits
 
 is_same : (iids : Iids) (way : Direction) (packet : List ℕ) (listed : Listed) (f g : FormData) → form_by iids way packet listed ≡ Some f → form_by iids way packet listed ≡ Some g → f ≡ g
 is_same iids way packet listed f g a b = let both : Some f ≡ Some g = sym a ∙ b in cc
@@ -128,12 +121,12 @@ itself : (f g : FormData) → f ≡ g → IsNoLonger f.rule_id f.bits g.rule_id 
 itself f g e = subst (λ (g : FormData). IsNoLonger f.rule_id f.bits g.rule_id g.bits) e (inr (refl, omega arith))
 
 -- the RuleID of a form is its rule's
-form-id : (iids : Iids) (way : Direction) (packet : List ℕ) (listed : Listed) (f : FormData) → form_by iids way packet listed ≡ Some f → f.rule_id ≡ listed.rule.id
+pub form-id : (iids : Iids) (way : Direction) (packet : List ℕ) (listed : Listed) (f : FormData) → form_by iids way packet listed ≡ Some f → f.rule_id ≡ listed.rule.id
 form-id iids way packet listed f e = ap (λ (f : FormData). f.rule_id) (form-parts iids way packet listed f e).is
 
--- the first form is no longer than the shortest of the rest
-first-least : (iids : Iids) (way : Direction) (packet : List ℕ) (listed : Listed) (rules : List Listed) (f g : FormData) → IsAscending (listed ∷ rules) → form_by iids way packet listed ≡ Some f → IsShortest iids way packet rules g → length f.bits ≤ length g.bits → IsShortest iids way packet (listed ∷ rules) f
-first-least iids way packet listed rules f g rising e rest short =
+-- the first form comes before the shortest of the rest
+first-least : (iids : Iids) (way : Direction) (packet : List ℕ) (listed : Listed) (rules : List Listed) (f g : FormData) → form_by iids way packet listed ≡ Some f → IsShortest iids way packet rules g → ComesFirst (candidate_of f) (candidate_of g) → IsShortest iids way packet (listed ∷ rules) f
+first-least iids way packet listed rules f g e rest first =
     record {
       listed = listed;
       among = Contains-first listed rules;
@@ -142,26 +135,13 @@ first-least iids way packet listed rules f g rising e rest short =
           elim (first_or_rest listed rules other among) [
             | inl same ↦
                 itself f h (is_same iids way packet listed f h e (subst (λ other. form_by iids way packet other ≡ Some h) (sym same) form))
-            | inr later ↦
-                elim (cases_lt (length f.bits) (length h.bits)) [
-                  | inl l ↦ inl l
-                  | inr l ↦
-                      let higher : listed.rule.id < other.rule.id = later-higher listed rules rising other later in
-                      let here : f.rule_id ≡ listed.rule.id = form-id iids way packet listed f e in
-                      let there : h.rule_id ≡ other.rule.id = form-id iids way packet other h form in
-                      let long : length f.bits ≤ length h.bits = no_longer f g h short (rest.least other h later form) in
-                      inr (omega arith, omega arith)
-                ]
+            | inr later ↦ first-trans (candidate_of f) (candidate_of g) (candidate_of h) first (rest.least other h later form)
           ];
     }
-  where
-    no_longer : (f g h : FormData) → length f.bits ≤ length g.bits → IsNoLonger g.rule_id g.bits h.rule_id h.bits → length f.bits ≤ length h.bits
-    no_longer f g h l (inl k) = omega arith
-    no_longer f g h l (inr k) = omega (arith, k.0)
 
--- the shortest of the rest is shorter than the first form
-later-least : (iids : Iids) (way : Direction) (packet : List ℕ) (listed : Listed) (rules : List Listed) (f g : FormData) → form_by iids way packet listed ≡ Some f → IsShortest iids way packet rules g → length g.bits < length f.bits → IsShortest iids way packet (listed ∷ rules) g
-later-least iids way packet listed rules f g e rest short =
+-- the shortest of the rest comes before the first form
+later-least : (iids : Iids) (way : Direction) (packet : List ℕ) (listed : Listed) (rules : List Listed) (f g : FormData) → form_by iids way packet listed ≡ Some f → IsShortest iids way packet rules g → ComesFirst (candidate_of g) (candidate_of f) → IsShortest iids way packet (listed ∷ rules) g
+later-least iids way packet listed rules f g e rest first =
     record {
       listed = rest.listed;
       among = Contains-rest listed rules rest.listed rest.among;
@@ -170,7 +150,7 @@ later-least iids way packet listed rules f g e rest short =
           elim (first_or_rest listed rules other among) [
             | inl same ↦
                 let one : f ≡ h = is_same iids way packet listed f h e (subst (λ other. form_by iids way packet other ≡ Some h) (sym same) form) in
-                inl (subst (λ (h : FormData). length g.bits < length h.bits) one short)
+                subst (λ (h : FormData). ComesFirst (candidate_of g) (candidate_of h)) one first
             | inr later ↦ rest.least other h later form
           ];
     }
@@ -209,36 +189,38 @@ only-least iids way packet listed rules f e none =
           ];
     }
 
-next-least : (iids : Iids) (way : Direction) (packet : List ℕ) (listed : Listed) (rules : List Listed) (a b : Option FormData) (f : FormData) → IsAscending (listed ∷ rules) → form_by iids way packet listed ≡ a → shortest iids way packet rules ≡ b → ((g : FormData) → b ≡ Some g → IsShortest iids way packet rules g) → shorter a b ≡ Some f → IsShortest iids way packet (listed ∷ rules) f
-next-least iids way packet listed rules None None f rising e r rest s = absurd (cc)
-next-least iids way packet listed rules None (Some g) f rising e r rest s = rest-least iids way packet listed rules f e (rest f s)
-next-least iids way packet listed rules (Some h) None f rising e r rest s = only-least iids way packet listed rules f (e ∙ s) r
-next-least iids way packet listed rules (Some h) (Some g) f rising e r rest s =
-    elim (cases_lt (length g.bits) (length h.bits)) [
-      | inl l ↦
-          let one : Some g ≡ Some f = sym (shorter-later h g l) ∙ s in
-          let same : g ≡ f = cc in
-          subst (IsShortest iids way packet (listed ∷ rules)) same (later-least iids way packet listed rules h g e (rest g refl) l)
-      | inr l ↦
-          let one : Some h ≡ Some f = sym (shorter-first h g l) ∙ s in
+next-least : (iids : Iids) (way : Direction) (packet : List ℕ) (listed : Listed) (rules : List Listed) (a b : Option FormData) (f : FormData) → form_by iids way packet listed ≡ a → shortest iids way packet rules ≡ b → ((g : FormData) → b ≡ Some g → IsShortest iids way packet rules g) → shorter a b ≡ Some f → IsShortest iids way packet (listed ∷ rules) f
+next-least iids way packet listed rules None None f e r rest s = absurd (cc)
+next-least iids way packet listed rules None (Some g) f e r rest s = rest-least iids way packet listed rules f e (rest f s)
+next-least iids way packet listed rules (Some h) None f e r rest s = only-least iids way packet listed rules f (e ∙ s) r
+next-least iids way packet listed rules (Some h) (Some g) f e r rest s =
+    elim (cases_Bool (is_preferred (candidate_of h) (candidate_of g))) [
+      | inl t ↦
+          let one : Some h ≡ Some f = sym (shorter-first h g t) ∙ s in
           let same : h ≡ f = cc in
-          subst (IsShortest iids way packet (listed ∷ rules)) same (first-least iids way packet listed rules h g rising e (rest g refl) l)
+          subst (IsShortest iids way packet (listed ∷ rules)) same
+          (first-least iids way packet listed rules h g e (rest g refl) (preferred-true (candidate_of h) (candidate_of g) t))
+      | inr n ↦
+          let one : Some g ≡ Some f = sym (shorter-later h g n) ∙ s in
+          let same : g ≡ f = cc in
+          subst (IsShortest iids way packet (listed ∷ rules)) same
+          (later-least iids way packet listed rules h g e (rest g refl) (preferred-false (candidate_of h) (candidate_of g) n))
     ]
 
-shortest-least : (iids : Iids) (way : Direction) (packet : List ℕ) (rules : List Listed) (f : FormData) → IsAscending rules → shortest iids way packet rules ≡ Some f → IsShortest iids way packet rules f
-shortest-least iids way packet [] f rising e = absurd (cc)
-shortest-least iids way packet (listed ∷ rules) f rising e =
-    next-least iids way packet listed rules (form_by iids way packet listed) (shortest iids way packet rules) f rising refl refl
-    (λ g s. shortest-least iids way packet rules g (later-ascending listed rules rising) s) e
+pub shortest-least : (iids : Iids) (way : Direction) (packet : List ℕ) (rules : List Listed) (f : FormData) → shortest iids way packet rules ≡ Some f → IsShortest iids way packet rules f
+shortest-least iids way packet [] f e = absurd (cc)
+shortest-least iids way packet (listed ∷ rules) f e =
+    next-least iids way packet listed rules (form_by iids way packet listed) (shortest iids way packet rules) f refl refl
+    (λ g s. shortest-least iids way packet rules g s) e
 
 -- the shortest form is chosen, and the packet as it is where there is none
-pub chosen-by : (edition : EditionData) (iids : Iids) (way : Direction) (packet : List ℕ) (o : Option FormData) → IsAscending edition.rules → AreBytes packet → shortest iids way packet edition.rules ≡ o → IsChosen edition iids way packet (form_or_whole packet o).rule_id (form_or_whole packet o).bits
-chosen-by edition iids way packet None rising bytes e =
+pub chosen-by : (edition : EditionData) (iids : Iids) (way : Direction) (packet : List ℕ) (o : Option FormData) → AreBytes packet → shortest iids way packet edition.rules ≡ o → IsChosen edition iids way packet (form_or_whole packet o).rule_id (form_or_whole packet o).bits
+chosen-by edition iids way packet None bytes e =
     by_none (λ other bits c.
     let both : None ≡ Some (record { rule_id = other.rule.id; bits = bits }) = sym (shortest-none iids way packet edition.rules e other c.listing) ∙ candidate-form edition iids way packet other bits c in
     absurd (cc))
-chosen-by edition iids way packet (Some f) rising bytes e =
-    let least : IsShortest iids way packet edition.rules f = shortest-least iids way packet edition.rules f rising e in
+chosen-by edition iids way packet (Some f) bytes e =
+    let least : IsShortest iids way packet edition.rules f = shortest-least iids way packet edition.rules f e in
     let found : IsCandidate edition iids way packet least.listed f.bits = form-candidate edition iids way packet least.listed f bytes least.among least.form in
     let id : f.rule_id ≡ least.listed.rule.id = form-id iids way packet least.listed f least.form in
     subst (λ id. IsChosen edition iids way packet id f.bits) (sym id)
@@ -250,4 +232,4 @@ chosen-by edition iids way packet (Some f) rising bytes e =
 pub packed-chosen : PacksChosen
 unfolding packed
 packed-chosen edition iids way packet sound bytes =
-    chosen-by edition iids way packet (shortest iids way packet edition.rules) sound.ascending bytes refl
+    chosen-by edition iids way packet (shortest iids way packet edition.rules) bytes refl

@@ -25,6 +25,7 @@ use Rattle.rule_model.specs.Matches.{IsSameSet}
 use Rattle.rule_model.specs.Residue.{value_of}
 use Rattle.rule_model.proofs.EntryRowsLemmas.{EntryHolds-from_IsAdmitted}
 use Rattle.decompress.proofs.LawLemmas.{unfilter, value_of-own, passes_at}
+use Rattle.ip_udp_fields.specs.Layout.{fields_in_packet_order}
 use Rattle.ip_udp_fields.specs.Fields.{at_name, fields_in, FieldsOf}
 use Rattle.ip_udp_fields.specs.Checksum.{checksum_of}
 use Rattle.ip_udp_fields.specs.Join.{contents}
@@ -37,6 +38,7 @@ use Rattle.packer.specs.Schc.{is_computed_checksum}
 use Rattle.packer.specs.Ordering.{is_of_coap, message_fields}
 use Rattle.packer.specs.Unpacking.{filled_value, size_after, headers_of, body_of, joined, fixed_headers, packet_around, packet_of}
 use Rattle.packer.specs.Rebuilding.{AreRestored}
+use Rattle.packer.proofs.PacketOrderLemmas.{to-order, from-order}
 use Rattle.packer.proofs.CoverLemmas.{Contains-map, passes_some, some_passes, same_entry, udp_listed, no_option, first_position}
 use Rattle.packer.proofs.JoinedLemmas.{listed, AreFound, AreWide, found-listed, contents-same, joined-listed}
 use Rattle.packer.proofs.RestoredHeadersLemmas.{header_values}
@@ -152,7 +154,7 @@ module _ (rule : RuleData) (way : Direction) (fields : List FieldValue) (payload
       ]
 
   abbrev made : List ℕ
-  made = summed_if (computes_checksum rule way) (joined stack.IpUdp way (listed stack.IpUdp values) body)
+  made = summed_if (computes_checksum rule way) (joined stack.IpUdp way (listed stack.IpUdp way values) body)
 
   packet_is : packet_of rule way fields payload ≡ made
   unfolding packet_around
@@ -165,7 +167,7 @@ module _ (rule : RuleData) (way : Direction) (fields : List FieldValue) (payload
   has right =
       let own : first_held (contents stack.IpUdp headers (length body)) ≡ None = ap (λ of. first_held (contents of headers (length body))) (sym s) ∙ right in
       made_values stack.IpUdp way (computes_checksum rule way) values body tt (λ c. refl) wide
-      (ap first_held (contents-same stack.IpUdp values (listed stack.IpUdp values) headers (length body) tt (found-listed stack.IpUdp values tt) found) ∙ own)
+      (ap first_held (contents-same stack.IpUdp values (listed stack.IpUdp way values) headers (length body) tt (found-listed stack.IpUdp way values tt) found) ∙ own)
       (made-bytes message payload bytes none)
 
   module _ (packet : List ℕ) (h : HasValues stack.IpUdp way (final (computes_checksum rule way) (checksum_of packet) values) body packet) where
@@ -173,7 +175,7 @@ module _ (rule : RuleData) (way : Direction) (fields : List FieldValue) (payload
     all = final (computes_checksum rule way) (checksum_of packet) values
 
     abbrev its : List FieldValue
-    its = listed stack.IpUdp all ++ message
+    its = listed stack.IpUdp way all ++ message
 
     abbrev place : ℕ
     place = length body - length payload
@@ -206,13 +208,13 @@ module _ (rule : RuleData) (way : Direction) (fields : List FieldValue) (payload
         elim (cases_Bool (same_layer (layer_of e.name) layer.Coap)) [
           | inl c ↦
               let f = same.each_entry e among in
-              let own : Contains its f.0 = Contains-append_right (listed stack.IpUdp all) message f.0 (member-message fields f.0 f.1 (of_coap e f.0 f.2 c)) in
+              let own : Contains its f.0 = Contains-append_right (listed stack.IpUdp way all) message f.0 (member-message fields f.0 f.1 (of_coap e f.0 f.2 c)) in
               ap (value_of its) f.2 ∙ value_of-own its f.0 its_once own
               ∙ sym (ap (value_of fields) f.2 ∙ value_of-own fields f.0 once f.1)
               ∙ sym (coap_made_value (checksum_of packet) (length packet - 40) e (value_of fields (field_of e)) c)
           | inr n ↦
               let head = entry_head e among n in
-              let there : Contains its (with_value all e.name) = Contains-append_left (listed stack.IpUdp all) message (with_value all e.name) (Contains-map (with_value all) names e.name head.0) in
+              let there : Contains its (with_value all e.name) = Contains-append_left (listed stack.IpUdp way all) message (with_value all e.name) (Contains-map (with_value all) (fields_in_packet_order stack.IpUdp way) e.name (to-order stack.IpUdp way e.name tt head.0)) in
               let own : values e.name ≡ filled_value (length packet - 40) e (value_of fields (field_of e)) =
               ap (value_of headers) (sym head.1) ∙ heads-value rule way fields (length body) e heads among
               ∙ ap (λ n. filled_value n e (value_of fields (field_of e))) size
@@ -228,10 +230,10 @@ module _ (rule : RuleData) (way : Direction) (fields : List FieldValue) (payload
     its_set =
         record {
           each_field = λ f among.
-              elim (Contains-append_cases (listed stack.IpUdp all) message f among) [
+              elim (Contains-append_cases (listed stack.IpUdp way all) message f among) [
                 | inl here ↦
-                    let n = Contains-unmap (with_value all) names f here in
-                    let e = head_entry n.0 n.1 in
+                    let n = Contains-unmap (with_value all) (fields_in_packet_order stack.IpUdp way) f here in
+                    let e = head_entry n.0 (from-order stack.IpUdp way n.0 tt n.1) in
                     (e.0, e.1, e.2 ∙ ap (λ (g : FieldValue). g.at) n.2)
                 | inr there ↦ same.each_field f (message-member fields f there).0
               ];
@@ -239,10 +241,10 @@ module _ (rule : RuleData) (way : Direction) (fields : List FieldValue) (payload
               elim (cases_Bool (same_layer (layer_of e.name) layer.Coap)) [
                 | inl c ↦
                     let f = same.each_entry e among in
-                    (f.0, Contains-append_right (listed stack.IpUdp all) message f.0 (member-message fields f.0 f.1 (of_coap e f.0 f.2 c)), f.2)
+                    (f.0, Contains-append_right (listed stack.IpUdp way all) message f.0 (member-message fields f.0 f.1 (of_coap e f.0 f.2 c)), f.2)
                 | inr n ↦
                     let head = entry_head e among n in
-                    (with_value all e.name, Contains-append_left (listed stack.IpUdp all) message (with_value all e.name) (Contains-map (with_value all) names e.name head.0), head.1)
+                    (with_value all e.name, Contains-append_left (listed stack.IpUdp way all) message (with_value all e.name) (Contains-map (with_value all) (fields_in_packet_order stack.IpUdp way) e.name (to-order stack.IpUdp way e.name tt head.0)), head.1)
               ];
         }
 

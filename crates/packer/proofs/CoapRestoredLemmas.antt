@@ -31,6 +31,7 @@ use Rattle.decompress.specs.Reading.{restore_at}
 use Rattle.decompress.specs.Stands.{Stands}
 use Rattle.decompress.proofs.LawLemmas.{all_at, passes_at, Stands-from_read, value_of-own}
 use Rattle.decompress.proofs.MatchedLemmas.{reads_back, restored_value-agrees}
+use Rattle.ip_udp_fields.specs.Layout.{fields_in_packet_order}
 use Rattle.ip_udp_fields.specs.Fields.{at_name, field_in, fields_in, FieldsOf}
 use Rattle.ip_udp_fields.specs.Checksum.{checksum_of}
 use Rattle.ip_udp_fields.specs.Join.{value_in, other_number, too_many, contents}
@@ -335,7 +336,7 @@ module _ (rule : RuleData) (iids : Iids) (way : Direction) (packet : List ℕ) (
 
   own_right : first_held (contents stack.IpUdp heads_of (length (drop 48 packet))) ≡ None
   own_right =
-      (join_refusal-none stack.IpUdp heads_of (length (drop 48 packet)) (joins_again stack.IpUdp way packet heads_of 48 (udp-of way packet fields from p))).right
+      (join_refusal-none stack.IpUdp way heads_of (length (drop 48 packet)) (joins_again stack.IpUdp way packet heads_of 48 (udp-of way packet fields from p))).right
 
   front : first_held (front_faults again) ≡ None
   front =
@@ -386,7 +387,7 @@ module _ (rule : RuleData) (iids : Iids) (way : Direction) (packet : List ℕ) (
   unfolding fields_in
   same-fields packet' =
       map-append (λ (f : FieldValue). f.at) (fields_in stack.IpUdp way packet') mine
-      ∙ ap (λ (xs : List FieldAt). xs ++ map (λ (f : FieldValue). f.at) mine) (ats way packet' names ∙ sym (ats way packet names))
+      ∙ ap (λ (xs : List FieldAt). xs ++ map (λ (f : FieldValue). f.at) mine) (ats way packet' (fields_in_packet_order stack.IpUdp way) ∙ sym (ats way packet (fields_in_packet_order stack.IpUdp way)))
       ∙ ap (λ (xs : List FieldAt). map (λ (f : FieldValue). f.at) heads_of ++ xs) (alike-ats mine p.message_fields alike)
       ∙ sym (map-append (λ (f : FieldValue). f.at) heads_of p.message_fields)
       ∙ ap (map (λ (f : FieldValue). f.at)) (sym p.its_fields)

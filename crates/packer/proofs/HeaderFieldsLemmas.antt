@@ -7,6 +7,7 @@ use Rattle.std.proofs.lemmas.List.Elements.{All-nil, All-cons, All-map, All-weak
 use Rattle.std.proofs.lemmas.List.Kept.{AllPairs-cons}
 use Rattle.std.proofs.lemmas.List.Sums.{AllPass-from_list_all}
 use Rattle.schc_ids.specs.declared.ends.Direction.{Direction}
+use Rattle.schc_ids.specs.declared.ends.Direction.TheVariants.{Up, Down}
 use Rattle.schc_ids.specs.declared.names.FieldAt.{FieldAt}
 use Rattle.schc_ids.specs.declared.names.FieldName.{FieldName}
 use Rattle.schc_ids.specs.declared.names.FieldName.TheVariants.{CoapVersion, CoapType, CoapTkl, CoapCode, CoapMid, CoapToken, CoapOption}
@@ -20,7 +21,7 @@ use Rattle.rule_model.specs.Cover.{covered}
 use Rattle.rule_model.specs.Findings.{is_length_of, IsAdmitted}
 use Rattle.rule_model.specs.Residue.{WidthHolds}
 use Rattle.rule_model.proofs.EntryRowsLemmas.{EntryHolds-from_IsAdmitted}
-use Rattle.ip_udp_fields.specs.Layout.{IsWithoutCoap, bits_of}
+use Rattle.ip_udp_fields.specs.Layout.{IsWithoutCoap, fields_in_packet_order, bits_of}
 use Rattle.ip_udp_fields.specs.Fields.{field_in}
 use Rattle.ip_udp_fields.proofs.SplitLemmas.{field_bits}
 
@@ -29,10 +30,12 @@ abbrev pub are_apart : List FieldName → Bool
 are_apart [] = true
 are_apart (name ∷ names) = list_all (λ other. not (same_name name other)) names && are_apart names
 
-pub names-apart : (of : Stack) → IsWithoutCoap of → are_apart (fields_of_stack of) ≡ true
-names-apart stack.Ip h = refl
-names-apart stack.IpUdp h = refl
-names-apart stack.IpUdpCoap h = absurd h
+pub names-apart : (of : Stack) (way : Direction) → IsWithoutCoap of → are_apart (fields_in_packet_order of way) ≡ true
+names-apart stack.Ip Up h = refl
+names-apart stack.Ip Down h = refl
+names-apart stack.IpUdp Up h = refl
+names-apart stack.IpUdp Down h = refl
+names-apart stack.IpUdpCoap way h = absurd h
 
 -- fields of other names are others
 pub other_at : (way : Direction) (packet : List ℕ) (name other : FieldName) → not (same_name name other) ≡ true → (field_in way packet name).at ≢ (field_in way packet other).at
@@ -74,14 +77,16 @@ is_below_coap CoapToken = false
 is_below_coap (CoapOption number) = false
 is_below_coap _ = true
 
-pub names-below : (of : Stack) → IsWithoutCoap of → list_all is_below_coap (fields_of_stack of) ≡ true
-names-below stack.Ip h = refl
-names-below stack.IpUdp h = refl
-names-below stack.IpUdpCoap h = absurd h
+pub names-below : (of : Stack) (way : Direction) → IsWithoutCoap of → list_all is_below_coap (fields_in_packet_order of way) ≡ true
+names-below stack.Ip Up h = refl
+names-below stack.Ip Down h = refl
+names-below stack.IpUdp Up h = refl
+names-below stack.IpUdp Down h = refl
+names-below stack.IpUdpCoap way h = absurd h
 
-pub fields-below : (of : Stack) (way : Direction) (packet : List ℕ) → IsWithoutCoap of → All (λ f. is_below_coap f.at.name ≡ true) (map (field_in way packet) (fields_of_stack of))
+pub fields-below : (of : Stack) (way : Direction) (packet : List ℕ) → IsWithoutCoap of → All (λ f. is_below_coap f.at.name ≡ true) (map (field_in way packet) (fields_in_packet_order of way))
 fields-below of way packet h =
-    All-map (λ f. is_below_coap f.at.name ≡ true) (field_in way packet) (fields_of_stack of) (AllPass-from_list_all is_below_coap (fields_of_stack of) (names-below of h))
+    All-map (λ f. is_below_coap f.at.name ≡ true) (field_in way packet) (fields_in_packet_order of way) (AllPass-from_list_all is_below_coap (fields_in_packet_order of way) (names-below of way h))
 
 -- the length is one of the field's
 pub kind_of : (rule : RuleData) → IsAdmitted rule → (e : EntryData) → Contains rule.entries e → is_length_of e.name e.length ≡ true

@@ -4,6 +4,7 @@ use Rattle.std.specs.List.{AllByRecursion}
 use Rattle.std.proofs.Common.{ap, refl, sym, ◌∙◌, subst}
 use Rattle.schc_bits.specs.Bits.{padded, bytes_of, AreBytes}
 use Rattle.schc_ids.specs.declared.ends.Direction.{Direction}
+use Rattle.schc_ids.specs.declared.ends.Direction.TheVariants.{Up, Down}
 use Rattle.schc_ids.specs.declared.names.FieldName.{FieldName}
 use Rattle.schc_ids.specs.declared.names.Stack.{Stack}
 use Rattle.schc_ids.specs.declared.names.Stack.TheVariants as stack
@@ -11,18 +12,18 @@ use Rattle.schc_ids.specs.Names.{fields_of_stack}
 use Rattle.rule_model.specs.declared.value.FieldValue.{FieldValue}
 use Rattle.rule_model.specs.First.{first_held}
 use Rattle.rule_model.proofs.FirstLemmas.{first_held-append_none}
-use Rattle.ip_udp_fields.specs.Layout.{IsWithoutCoap, header_size, bits_of}
+use Rattle.ip_udp_fields.specs.Layout.{IsWithoutCoap, header_size, mirrored, fields_in_packet_order, bits_of}
 use Rattle.ip_udp_fields.specs.Fields.{FieldsOf}
-use Rattle.ip_udp_fields.specs.Join.{value_in, value_of, presence, order, contents, join_refusal, mirrored, values_in, header_bits}
+use Rattle.ip_udp_fields.specs.Join.{value_in, value_of, presence, order, contents, join_refusal, values_in, header_bits}
 use Rattle.ip_udp_fields.proofs.OrderLemmas.{with_value}
-use Rattle.ip_udp_fields.proofs.SpanLemmas.{mirror}
+use Rattle.ip_udp_fields.proofs.SpanLemmas.{mirror, to_packet_order}
 use Rattle.ip_udp_fields.proofs.JoinLemmas.{joined-fields, joined-payload, joined-bytes}
 use Rattle.ip_udp_fields.proofs.SplitLemmas.{present}
 use Rattle.packer.specs.Unpacking.{joined}
 
 -- the fields of a stack, with these values
-abbrev pub listed : Stack → (FieldName → List Bool) → List FieldValue
-listed of values = map (with_value values) (fields_of_stack of)
+abbrev pub listed : Stack → Direction → (FieldName → List Bool) → List FieldValue
+listed of way values = map (with_value values) (fields_in_packet_order of way)
 
 -- each name is found with its value
 abbrev pub AreFound : Stack → (FieldName → List Bool) → List FieldValue → Type 0
@@ -31,16 +32,21 @@ AreFound of values fields = AllByRecursion (λ n. value_in fields n ≡ Some (va
 abbrev pub AreWide : Stack → (FieldName → List Bool) → Type 0
 AreWide of values = AllByRecursion (λ n. length (values n) ≡ bits_of n) (fields_of_stack of)
 
-pub found-listed : (of : Stack) (values : FieldName → List Bool) → IsWithoutCoap of → AreFound of values (listed of values)
-found-listed stack.Ip values h = (refl, (refl, (refl, (refl, (refl, (refl, (refl, (refl, (refl, (refl, tt))))))))))
-found-listed stack.IpUdp values h =
+pub found-listed : (of : Stack) (way : Direction) (values : FieldName → List Bool) → IsWithoutCoap of → AreFound of values (listed of way values)
+found-listed stack.Ip Up values h = (refl, (refl, (refl, (refl, (refl, (refl, (refl, (refl, (refl, (refl, tt))))))))))
+found-listed stack.Ip Down values h = (refl, (refl, (refl, (refl, (refl, (refl, (refl, (refl, (refl, (refl, tt))))))))))
+found-listed stack.IpUdp Up values h =
     (refl, (refl, (refl, (refl, (refl, (refl, (refl, (refl, (refl, (refl, (refl, (refl, (refl, (refl, tt))))))))))))))
-found-listed stack.IpUdpCoap values h = absurd h
+found-listed stack.IpUdp Down values h =
+    (refl, (refl, (refl, (refl, (refl, (refl, (refl, (refl, (refl, (refl, (refl, (refl, (refl, (refl, tt))))))))))))))
+found-listed stack.IpUdpCoap way values h = absurd h
 
-ordered-listed : (of : Stack) (values : FieldName → List Bool) → IsWithoutCoap of → first_held (order (fields_of_stack of) (listed of values)) ≡ None
-ordered-listed stack.Ip values h = refl
-ordered-listed stack.IpUdp values h = refl
-ordered-listed stack.IpUdpCoap values h = absurd h
+ordered-listed : (of : Stack) (way : Direction) (values : FieldName → List Bool) → IsWithoutCoap of → first_held (order (fields_in_packet_order of way) (listed of way values)) ≡ None
+ordered-listed stack.Ip Up values h = refl
+ordered-listed stack.Ip Down values h = refl
+ordered-listed stack.IpUdp Up values h = refl
+ordered-listed stack.IpUdp Down values h = refl
+ordered-listed stack.IpUdpCoap way values h = absurd h
 
 same_values : (v : FieldName → List Bool) (a b : List FieldValue) (names : List FieldName) → AllByRecursion (λ n. value_in a n ≡ Some (v n)) names → AllByRecursion (λ n. value_in b n ≡ Some (v n)) names → AllByRecursion (λ n. value_of a n ≡ value_of b n) names
 same_values v a b [] f g = tt
@@ -62,33 +68,36 @@ contents-same stack.IpUdp v a b size h f g =
     rw (f.0, g.0, f.1.1.1.0, g.1.1.1.0, f.1.1.1.1.0, g.1.1.1.1.0, f.1.1.1.1.1.1.1.1.1.1.1.1.0, g.1.1.1.1.1.1.1.1.1.1.1.1.0) refl
 contents-same stack.IpUdpCoap v a b size h f g = absurd h
 
-listed-none : (of : Stack) (v : FieldName → List Bool) (size : ℕ) → IsWithoutCoap of → AreWide of v → first_held (contents of (listed of v) size) ≡ None → join_refusal of (listed of v) size ≡ None
+listed-none : (of : Stack) (way : Direction) (v : FieldName → List Bool) (size : ℕ) → IsWithoutCoap of → AreWide of v → first_held (contents of (listed of way v) size) ≡ None → join_refusal of way (listed of way v) size ≡ None
 unfolding join_refusal
-listed-none of v size h wide right =
-    first_held-append_none (presence (listed of v) (fields_of_stack of)) (order (fields_of_stack of) (listed of v) ++ contents of (listed of v) size) (present (listed of v) v (fields_of_stack of) (found-listed of v h) wide)
-    ∙ first_held-append_none (order (fields_of_stack of) (listed of v)) (contents of (listed of v) size) (ordered-listed of v h) ∙ right
+listed-none of way v size h wide right =
+    let names : List FieldName = fields_in_packet_order of way in
+    let all : List FieldValue = listed of way v in
+    first_held-append_none (presence all names) (order names all ++ contents of all size)
+    (present all v names (to_packet_order (λ n. value_in all n ≡ Some (v n)) of way h (found-listed of way v h)) (to_packet_order (λ n. length (v n) ≡ bits_of n) of way h wide))
+    ∙ first_held-append_none (order names all) (contents of all size) (ordered-listed of way v h) ∙ right
 
 -- fields found by their names are joined to a packet
-pub joined-listed : (of : Stack) (way : Direction) (v : FieldName → List Bool) (fields : List FieldValue) (payload : List ℕ) → IsWithoutCoap of → AreFound of v fields → joined of way fields payload ≡ joined of way (listed of v) payload
+pub joined-listed : (of : Stack) (way : Direction) (v : FieldName → List Bool) (fields : List FieldValue) (payload : List ℕ) → IsWithoutCoap of → AreFound of v fields → joined of way fields payload ≡ joined of way (listed of way v) payload
 unfolding joined
 joined-listed of way v fields payload h f =
-    ap (λ (bits : List Bool). bytes_of (padded bits) ++ payload) (header_bits-same of way v fields (listed of v) h f (found-listed of v h))
+    ap (λ (bits : List Bool). bytes_of (padded bits) ++ payload) (header_bits-same of way v fields (listed of way v) h f (found-listed of way v h))
 
-pub joined-packet : (of : Stack) (way : Direction) (v : FieldName → List Bool) (fields : List FieldValue) (payload : List ℕ) → IsWithoutCoap of → AreFound of v fields → AreWide of v → first_held (contents of fields (length payload)) ≡ None → FieldsOf of way (joined of way fields payload) (listed of v) (header_size of)
+pub joined-packet : (of : Stack) (way : Direction) (v : FieldName → List Bool) (fields : List FieldValue) (payload : List ℕ) → IsWithoutCoap of → AreFound of v fields → AreWide of v → first_held (contents of fields (length payload)) ≡ None → FieldsOf of way (joined of way fields payload) (listed of way v) (header_size of)
 unfolding joined
 joined-packet of way v fields payload h f wide right =
-    let none : join_refusal of (listed of v) (length payload) ≡ None =
-    listed-none of v (length payload) h wide (ap first_held (contents-same of v (listed of v) fields (length payload) h (found-listed of v h) f) ∙ right)
+    let none : join_refusal of way (listed of way v) (length payload) ≡ None =
+    listed-none of way v (length payload) h wide (ap first_held (contents-same of v (listed of way v) fields (length payload) h (found-listed of way v h) f) ∙ right)
     in
-    subst (λ (packet : List ℕ). FieldsOf of way packet (listed of v) (header_size of)) (sym (joined-listed of way v fields payload h f)) (joined-fields of way (listed of v) payload h none)
+    subst (λ (packet : List ℕ). FieldsOf of way packet (listed of way v) (header_size of)) (sym (joined-listed of way v fields payload h f)) (joined-fields of way (listed of way v) payload h none)
 
 pub joined-rest : (of : Stack) (way : Direction) (v : FieldName → List Bool) (fields : List FieldValue) (payload : List ℕ) → IsWithoutCoap of → AreFound of v fields → AreWide of v → first_held (contents of fields (length payload)) ≡ None → drop (header_size of) (joined of way fields payload) ≡ payload
 unfolding joined
 joined-rest of way v fields payload h f wide right =
-    let none : join_refusal of (listed of v) (length payload) ≡ None =
-    listed-none of v (length payload) h wide (ap first_held (contents-same of v (listed of v) fields (length payload) h (found-listed of v h) f) ∙ right)
+    let none : join_refusal of way (listed of way v) (length payload) ≡ None =
+    listed-none of way v (length payload) h wide (ap first_held (contents-same of v (listed of way v) fields (length payload) h (found-listed of way v h) f) ∙ right)
     in
-    ap (λ (packet : List ℕ). drop (header_size of) packet) (joined-listed of way v fields payload h f) ∙ joined-payload of way (listed of v) payload h none
+    ap (λ (packet : List ℕ). drop (header_size of) packet) (joined-listed of way v fields payload h f) ∙ joined-payload of way (listed of way v) payload h none
 
 pub AreBytes-joined : (of : Stack) (way : Direction) (fields : List FieldValue) (payload : List ℕ) → AreBytes payload → AreBytes (joined of way fields payload)
 unfolding joined

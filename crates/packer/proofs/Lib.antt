@@ -1,3 +1,4 @@
+pub mod PacketOrderLemmas
 pub mod FirstPartsLemmas
 pub mod AscendLemmas
 pub mod OrderedLemmas
@@ -28,13 +29,22 @@ pub mod PutPacketLemmas
 pub mod CoapRestoredLemmas
 pub mod SoundLemmas
 pub mod HeadersLemmas
+pub mod FirstLemmas
 pub mod ShorterLemmas
 pub mod SizedFieldsLemmas
 pub mod FormLemmas
 pub mod ChosenLemmas
 pub mod CoapOneLemmas
 pub mod ReadBackLemmas
+pub mod OnePacketLemmas
 pub mod UndroppedLemmas
 pub mod DifferLemmas
 pub mod UnpackedLemmas
 pub mod WrittenLemmas
+pub mod CandidateLemmas
+pub mod SplitsLemmas
+pub mod TriedLemmas
+pub mod SuspectLemmas
+pub mod RoomLemmas
+pub mod BoundLemmas
+pub mod SaysLemmas

@@ -5,6 +5,7 @@ use Rattle.std.proofs.lemmas.Bool.{cases_Bool, and_parts, and_from, true≢false
 use Rattle.std.proofs.lemmas.List.{length-drop}
 use Rattle.schc_bits.specs.Bits.{number_bits, AreBytes}
 use Rattle.schc_ids.specs.declared.ends.Direction.{Direction}
+use Rattle.schc_ids.specs.declared.ends.Direction.TheVariants.{Up, Down}
 use Rattle.schc_ids.specs.declared.ends.Iids.{Iids}
 use Rattle.schc_ids.specs.declared.names.FieldAt.{FieldAt}
 use Rattle.schc_ids.specs.declared.names.FieldName.{FieldName}
@@ -53,41 +54,49 @@ final computes checksum values name = if computes then summed checksum values na
 
 -- a packet with these values and this payload
 pub record HasValues (of : Stack) (way : Direction) (values : FieldName → List Bool) (payload packet : List ℕ) : Type 0 where
-  pub is_packet : FieldsOf of way packet (listed of values) (header_size of)
+  pub is_packet : FieldsOf of way packet (listed of way values) (header_size of)
   pub its_payload : drop (header_size of) packet ≡ payload
   pub bytes : AreBytes packet
 
 abbrev pub summed_if : Bool → List ℕ → List ℕ
 summed_if computes packet = if computes then with_checksum packet else packet
 
+-- the checksum isn't asked of
+contents_summed : (way : Direction) (checksum size : ℕ) (values : FieldName → List Bool) → contents stack.IpUdp (listed stack.IpUdp way values) size ≡ contents stack.IpUdp (listed stack.IpUdp way (summed checksum values)) size
+contents_summed Up checksum size values = refl
+contents_summed Down checksum size values = refl
+
 -- the checksum made anew in a packet with UDP
-made_summed : (way : Direction) (values : FieldName → List Bool) (payload : List ℕ) → AreWide stack.IpUdp values → first_held (contents stack.IpUdp (listed stack.IpUdp values) (length payload)) ≡ None → AreBytes payload → HasValues stack.IpUdp way values payload (joined stack.IpUdp way (listed stack.IpUdp values) payload) → HasValues stack.IpUdp way (summed (checksum_of (with_checksum (joined stack.IpUdp way (listed stack.IpUdp values) payload))) values) payload (with_checksum (joined stack.IpUdp way (listed stack.IpUdp values) payload))
+made_summed : (way : Direction) (values : FieldName → List Bool) (payload : List ℕ) → AreWide stack.IpUdp values → first_held (contents stack.IpUdp (listed stack.IpUdp way values) (length payload)) ≡ None → AreBytes payload → HasValues stack.IpUdp way values payload (joined stack.IpUdp way (listed stack.IpUdp way values) payload) → HasValues stack.IpUdp way (summed (checksum_of (with_checksum (joined stack.IpUdp way (listed stack.IpUdp way values) payload))) values) payload (with_checksum (joined stack.IpUdp way (listed stack.IpUdp way values) payload))
 made_summed way values payload w right b h =
-    let packet : List ℕ = joined stack.IpUdp way (listed stack.IpUdp values) payload in
+    let packet : List ℕ = joined stack.IpUdp way (listed stack.IpUdp way values) payload in
     let checksum : ℕ = checksum_of packet in
     let new : FieldName → List Bool = summed checksum values in
     let wide : AreWide stack.IpUdp new = summed_wide checksum values w in
-    let same : with_checksum packet ≡ joined stack.IpUdp way (listed stack.IpUdp new) payload = with_checksum-listed way values payload w b h.its_payload in
+    let same : with_checksum packet ≡ joined stack.IpUdp way (listed stack.IpUdp way new) payload = with_checksum-listed way values payload w b h.its_payload in
     let own : checksum_of (with_checksum packet) ≡ checksum = checksum-with_checksum packet (header_size-is_packet stack.IpUdp packet h.is_packet.is_packet) in
-    let made : HasValues stack.IpUdp way new payload (joined stack.IpUdp way (listed stack.IpUdp new) payload) =
+    let new_right : first_held (contents stack.IpUdp (listed stack.IpUdp way new) (length payload)) ≡ None =
+    ap first_held (sym (contents_summed way checksum (length payload) values)) ∙ right
+    in
+    let made : HasValues stack.IpUdp way new payload (joined stack.IpUdp way (listed stack.IpUdp way new) payload) =
     record {
-      is_packet = joined-packet stack.IpUdp way new (listed stack.IpUdp new) payload tt (found-listed stack.IpUdp new tt) wide right;
-      its_payload = joined-rest stack.IpUdp way new (listed stack.IpUdp new) payload tt (found-listed stack.IpUdp new tt) wide right;
-      bytes = AreBytes-joined stack.IpUdp way (listed stack.IpUdp new) payload b;
+      is_packet = joined-packet stack.IpUdp way new (listed stack.IpUdp way new) payload tt (found-listed stack.IpUdp way new tt) wide new_right;
+      its_payload = joined-rest stack.IpUdp way new (listed stack.IpUdp way new) payload tt (found-listed stack.IpUdp way new tt) wide new_right;
+      bytes = AreBytes-joined stack.IpUdp way (listed stack.IpUdp way new) payload b;
     }
     in
     subst (λ (c : ℕ). HasValues stack.IpUdp way (summed c values) payload (with_checksum packet)) (sym own)
     (subst (HasValues stack.IpUdp way new payload) (sym same) made)
 
-made_plain : (of : Stack) (way : Direction) (values : FieldName → List Bool) (payload : List ℕ) → IsWithoutCoap of → AreWide of values → first_held (contents of (listed of values) (length payload)) ≡ None → AreBytes payload → HasValues of way values payload (joined of way (listed of values) payload)
+made_plain : (of : Stack) (way : Direction) (values : FieldName → List Bool) (payload : List ℕ) → IsWithoutCoap of → AreWide of values → first_held (contents of (listed of way values) (length payload)) ≡ None → AreBytes payload → HasValues of way values payload (joined of way (listed of way values) payload)
 made_plain of way values payload h w right b =
     record {
-      is_packet = joined-packet of way values (listed of values) payload h (found-listed of values h) w right;
-      its_payload = joined-rest of way values (listed of values) payload h (found-listed of values h) w right;
-      bytes = AreBytes-joined of way (listed of values) payload b;
+      is_packet = joined-packet of way values (listed of way values) payload h (found-listed of way values h) w right;
+      its_payload = joined-rest of way values (listed of way values) payload h (found-listed of way values h) w right;
+      bytes = AreBytes-joined of way (listed of way values) payload b;
     }
 
-pub made_values : (of : Stack) (way : Direction) (computes : Bool) (values : FieldName → List Bool) (payload : List ℕ) → IsWithoutCoap of → (computes ≡ true → of ≡ stack.IpUdp) → AreWide of values → first_held (contents of (listed of values) (length payload)) ≡ None → AreBytes payload → HasValues of way (final computes (checksum_of (summed_if computes (joined of way (listed of values) payload))) values) payload (summed_if computes (joined of way (listed of values) payload))
+pub made_values : (of : Stack) (way : Direction) (computes : Bool) (values : FieldName → List Bool) (payload : List ℕ) → IsWithoutCoap of → (computes ≡ true → of ≡ stack.IpUdp) → AreWide of values → first_held (contents of (listed of way values) (length payload)) ≡ None → AreBytes payload → HasValues of way (final computes (checksum_of (summed_if computes (joined of way (listed of way values) payload))) values) payload (summed_if computes (joined of way (listed of way values) payload))
 made_values of way false values payload h s w right b = made_plain of way values payload h w right b
 made_values stack.Ip way true values payload h s w right b = let wrong : stack.Ip ≡ stack.IpUdp = s refl in absurd (cc)
 made_values stack.IpUdp way true values payload h s w right b =
@@ -153,10 +162,10 @@ size_of_payload stack.IpUdp size all h l e = omega (arith, e, l)
 size_of_payload stack.IpUdpCoap size all h l e = absurd h
 
 -- the value of a listed name
-pub listed_value : (of : Stack) (values : FieldName → List Bool) (name : FieldName) → IsWithoutCoap of → Contains (fields_of_stack of) name → value_of (listed of values) (at_name name) ≡ values name
-listed_value of values name h among =
-    value_of-value_in (listed of values) name
-    ∙ ap (λ o. unwrap_or o []) (all_at (λ n. value_in (listed of values) n ≡ Some (values n)) (fields_of_stack of) (found-listed of values h) name among)
+pub listed_value : (of : Stack) (way : Direction) (values : FieldName → List Bool) (name : FieldName) → IsWithoutCoap of → Contains (fields_of_stack of) name → value_of (listed of way values) (at_name name) ≡ values name
+listed_value of way values name h among =
+    value_of-value_in (listed of way values) name
+    ∙ ap (λ o. unwrap_or o []) (all_at (λ n. value_in (listed of way values) n ≡ Some (values n)) (fields_of_stack of) (found-listed of way values h) name among)
 
 IsMade-from_values : (rule : RuleData) (way : Direction) (fields : List FieldValue) (payload packet : List ℕ) → Covers rule way → HasValues (stack_of rule) way (final (computes_checksum rule way) (checksum_of packet) (header_values rule way fields (length payload))) payload packet → IsMade rule way fields payload packet
 IsMade-from_values rule way fields payload packet covers h =
@@ -168,7 +177,7 @@ IsMade-from_values rule way fields payload packet covers h =
     (ap (λ (bytes : List ℕ). length bytes) (sym h.its_payload) ∙ length-drop (header_size of) packet)
     in
     record {
-      its_fields = listed of all;
+      its_fields = listed of way all;
       is_packet = h.is_packet;
       its_payload = h.its_payload;
       bytes = h.bytes;
@@ -179,8 +188,8 @@ IsMade-from_values rule way fields payload packet covers h =
           ∙ headers-value rule way fields (length payload) e covers among
           ∙ ap (λ n. filled_value n e (value_of fields (field_of e))) size
           in
-          ap (value_of (listed of all)) place.1
-          ∙ listed_value of all e.name covers.without place.0
+          ap (value_of (listed of way all)) place.1
+          ∙ listed_value of way all e.name covers.without place.0
           ∙ chosen (computes_checksum rule way) (same_name e.name UdpChecksum) (number_bits 16 (checksum_of packet)) (values e.name)
           ∙ ap (λ b. if b then number_bits 16 (checksum_of packet) else values e.name) (checksum-choice rule way e covers among)
           ∙ ap (λ (bits : List Bool). if is_computed_checksum e then number_bits 16 (checksum_of packet) else bits) own;
@@ -193,10 +202,10 @@ made-packet rule way fields payload covers restored right b =
     let headers : List FieldValue = headers_of rule way fields (length payload) in
     let values : FieldName → List Bool = header_values rule way fields (length payload) in
     let found : AreFound of values headers = headers-found rule way fields (length payload) covers in
-    let right_listed : first_held (contents of (listed of values) (length payload)) ≡ None =
-    ap first_held (contents-same of values (listed of values) headers (length payload) covers.without (found-listed of values covers.without) found) ∙ right
+    let right_listed : first_held (contents of (listed of way values) (length payload)) ≡ None =
+    ap first_held (contents-same of values (listed of way values) headers (length payload) covers.without (found-listed of way values covers.without) found) ∙ right
     in
     let has = made_values of way (computes_checksum rule way) values payload covers.without (computes-stack rule way covers) (headers-wide rule way fields (length payload) covers restored) right_listed b in
     subst (IsMade rule way fields payload)
     (ap (λ (packet : List ℕ). summed_if (computes_checksum rule way) packet) (sym (joined-listed of way values headers payload covers.without found)) ∙ sym (packet_of-plain rule way fields payload covers.without))
-    (IsMade-from_values rule way fields payload (summed_if (computes_checksum rule way) (joined of way (listed of values) payload)) covers has)
+    (IsMade-from_values rule way fields payload (summed_if (computes_checksum rule way) (joined of way (listed of way values) payload)) covers has)

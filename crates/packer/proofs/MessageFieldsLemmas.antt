@@ -7,6 +7,7 @@ use Rattle.schc_bits.specs.Bits.{number_bits, bits_value, octets}
 use Rattle.schc_bits.proofs.NumberBits.{length-number_bits, bits_value-number_bits}
 use Rattle.schc_bits.proofs.Octets.{length-octets}
 use Rattle.schc_ids.specs.declared.ends.Direction.{Direction}
+use Rattle.schc_ids.specs.declared.ends.Direction.TheVariants.{Up, Down}
 use Rattle.schc_ids.specs.declared.names.FieldName.{FieldName}
 use Rattle.schc_ids.specs.declared.names.FieldName.TheVariants.{CoapVersion, CoapType, CoapTkl, CoapCode, CoapMid, CoapToken, CoapOption}
 use Rattle.schc_ids.specs.declared.names.Stack.TheVariants as stack
@@ -109,7 +110,8 @@ message-right m most h =
 -- the bits of the token
 tkl_value : (way : Direction) (packet : List ℕ) (m : Message) → value_of (fields_in stack.IpUdp way packet ++ fields_of_message m) (at_name CoapTkl) ≡ number_bits 4 (length m.token)
 unfolding fields_in fields_of_message
-tkl_value way packet m = refl
+tkl_value Up packet m = refl
+tkl_value Down packet m = refl
 
 pub message-token_bits : (way : Direction) (packet : List ℕ) (m : Message) → IsMessage m → token_bits (fields_in stack.IpUdp way packet ++ fields_of_message m) ≡ 8 * length m.token
 message-token_bits way packet m h =

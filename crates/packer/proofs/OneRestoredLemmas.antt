@@ -20,7 +20,7 @@ use Rattle.rule_model.specs.Cover.{field_of, stack_of}
 use Rattle.rule_model.specs.First.{first_held}
 use Rattle.rule_model.specs.Residue.{value_of}
 use Rattle.decompress.proofs.LawLemmas.{all_from}
-use Rattle.ip_udp_fields.specs.Layout.{IsWithoutCoap, header_size}
+use Rattle.ip_udp_fields.specs.Layout.{IsWithoutCoap, header_size, fields_in_packet_order}
 use Rattle.ip_udp_fields.specs.Fields.{at_name, fields_in, FieldsOf}
 use Rattle.ip_udp_fields.specs.Checksum.{checksum_of}
 use Rattle.ip_udp_fields.specs.Join.{contents, values_in}
@@ -31,6 +31,7 @@ use Rattle.ip_udp_fields.proofs.JoinLemmas.{join_refusal-none}
 use Rattle.ip_udp_fields.proofs.SplitLemmas.{field_bits, lengths, joins_again, one_packet, one_split, without_coap}
 use Rattle.packer.specs.Schc.{is_computed_checksum, kept_value, IsRestored}
 use Rattle.packer.specs.Unpacking.{joined}
+use Rattle.packer.proofs.PacketOrderLemmas.{from-order}
 use Rattle.packer.proofs.CoverLemmas.{Covers}
 use Rattle.packer.proofs.JoinedLemmas.{listed, AreWide, found-listed, joined-packet, joined-rest, AreBytes-joined}
 use Rattle.packer.proofs.ChecksumLemmas.{summed, front_names, front-listed, front-same, checksum-same, AreBytes-take, AreBytes-drop}
@@ -42,26 +43,26 @@ wide_bits : (of : Stack) (way : Direction) (packet : List ℕ) (fields : List Fi
 wide_bits of way packet fields from p =
     lengths of way packet (fields_of_stack of) (header_size-is_packet of packet p.is_packet) (fields-within of way (without_coap of packet p.is_packet))
 
-its_bits : (of : Stack) (way : Direction) (packet : List ℕ) (fields : List FieldValue) (from : ℕ) → FieldsOf of way packet fields from → fields ≡ listed of (field_bits way packet)
+its_bits : (of : Stack) (way : Direction) (packet : List ℕ) (fields : List FieldValue) (from : ℕ) → FieldsOf of way packet fields from → fields ≡ listed of way (field_bits way packet)
 unfolding fields_in
 its_bits of way packet fields from p = p.its_fields
 
 -- a packet is joined of its values
-as_joined : (of : Stack) (way : Direction) (packet : List ℕ) (fields : List FieldValue) (from : ℕ) → FieldsOf of way packet fields from → AreBytes packet → packet ≡ joined of way (listed of (field_bits way packet)) (drop from packet)
+as_joined : (of : Stack) (way : Direction) (packet : List ℕ) (fields : List FieldValue) (from : ℕ) → FieldsOf of way packet fields from → AreBytes packet → packet ≡ joined of way (listed of way (field_bits way packet)) (drop from packet)
 as_joined of way packet fields from p bytes =
     let h : IsWithoutCoap of = without_coap of packet p.is_packet in
     let values : FieldName → List Bool = field_bits way packet in
-    let same : fields ≡ listed of values = its_bits of way packet fields from p in
-    let right : first_held (contents of (listed of values) (length (drop from packet))) ≡ None =
+    let same : fields ≡ listed of way values = its_bits of way packet fields from p in
+    let right : first_held (contents of (listed of way values) (length (drop from packet))) ≡ None =
     subst (λ (all : List FieldValue). first_held (contents of all (length (drop from packet))) ≡ None) same
-    (join_refusal-none of fields (length (drop from packet)) (joins_again of way packet fields from p)).right
+    (join_refusal-none of way fields (length (drop from packet)) (joins_again of way packet fields from p)).right
     in
     let wide : AreWide of values = wide_bits of way packet fields from p in
-    let other = joined-packet of way values (listed of values) (drop from packet) h (found-listed of values h) wide right in
-    one_packet of way packet (joined of way (listed of values) (drop from packet)) fields from (header_size of) bytes
-    (AreBytes-joined of way (listed of values) (drop from packet) (AreBytes-drop from packet bytes)) p
-    (subst (λ (all : List FieldValue). FieldsOf of way (joined of way (listed of values) (drop from packet)) all (header_size of)) (sym same) other)
-    (sym (joined-rest of way values (listed of values) (drop from packet) h (found-listed of values h) wide right))
+    let other = joined-packet of way values (listed of way values) (drop from packet) h (found-listed of way values h) wide right in
+    one_packet of way packet (joined of way (listed of way values) (drop from packet)) fields from (header_size of) bytes
+    (AreBytes-joined of way (listed of way values) (drop from packet) (AreBytes-drop from packet bytes)) p
+    (subst (λ (all : List FieldValue). FieldsOf of way (joined of way (listed of way values) (drop from packet)) all (header_size of)) (sym same) other)
+    (sym (joined-rest of way values (listed of way values) (drop from packet) h (found-listed of way values h) wide right))
 
 listed-same : (v w : FieldName → List Bool) (names : List FieldName) → AllByRecursion (λ n. v n ≡ w n) names → map (with_value v) names ≡ map (with_value w) names
 listed-same v w [] h = refl
@@ -78,13 +79,13 @@ summed-same v w n h =
     ]
 
 -- packets with UDP that differ in the checksum alone have one computed checksum
-same_checksum : (way : Direction) (v w : FieldName → List Bool) (payload : List ℕ) → AreWide stack.IpUdp v → AreWide stack.IpUdp w → AreBytes payload → ((n : FieldName) → Contains (fields_of_stack stack.IpUdp) n → same_name n UdpChecksum ≡ false → v n ≡ w n) → (this that : List ℕ) → AreBytes this → AreBytes that → this ≡ joined stack.IpUdp way (listed stack.IpUdp v) payload → that ≡ joined stack.IpUdp way (listed stack.IpUdp w) payload → 48 ≤ length this → 48 ≤ length that → drop 48 this ≡ drop 48 that → checksum_of this ≡ checksum_of that
+same_checksum : (way : Direction) (v w : FieldName → List Bool) (payload : List ℕ) → AreWide stack.IpUdp v → AreWide stack.IpUdp w → AreBytes payload → ((n : FieldName) → Contains (fields_of_stack stack.IpUdp) n → same_name n UdpChecksum ≡ false → v n ≡ w n) → (this that : List ℕ) → AreBytes this → AreBytes that → this ≡ joined stack.IpUdp way (listed stack.IpUdp way v) payload → that ≡ joined stack.IpUdp way (listed stack.IpUdp way w) payload → 48 ≤ length this → 48 ≤ length that → drop 48 this ≡ drop 48 that → checksum_of this ≡ checksum_of that
 same_checksum way v w payload vw ww b h this that a c e f l m rest =
-    let lists : listed stack.IpUdp (summed 0 v) ≡ listed stack.IpUdp (summed 0 w) =
-    listed-same (summed 0 v) (summed 0 w) (fields_of_stack stack.IpUdp)
-    (all_from (λ n. summed 0 v n ≡ summed 0 w n) (fields_of_stack stack.IpUdp) (λ n among. summed-same v w n (h n among)))
+    let lists : listed stack.IpUdp way (summed 0 v) ≡ listed stack.IpUdp way (summed 0 w) =
+    listed-same (summed 0 v) (summed 0 w) (fields_in_packet_order stack.IpUdp way)
+    (all_from (λ n. summed 0 v n ≡ summed 0 w n) (fields_in_packet_order stack.IpUdp way) (λ n among. summed-same v w n (h n (from-order stack.IpUdp way n tt among))))
     in
-    let fronts : values_in way (listed stack.IpUdp v) front_names ≡ values_in way (listed stack.IpUdp w) front_names =
+    let fronts : values_in way (listed stack.IpUdp way v) front_names ≡ values_in way (listed stack.IpUdp way w) front_names =
     sym (front-same way 0 v) ∙ ap (λ (all : List FieldValue). values_in way all front_names) lists ∙ front-same way 0 w
     in
     let bits : octets (take 46 this) ≡ octets (take 46 that) =
@@ -108,7 +109,7 @@ restored-name rule way packet restored fields from r covers p n among =
     let made = PacketOf-fields of way restored r.restored_fields r.payload_from covers.without r.is_restored in
     let same : r.fields ≡ fields = (one_split of way packet r.fields fields r.payload_from from own p).0 in
     let value : field_bits way restored n ≡ value_of r.restored_fields (field_of e.0) =
-    sym (listed_value of (field_bits way restored) n covers.without among)
+    sym (listed_value of way (field_bits way restored) n covers.without among)
     ∙ ap (λ (all : List FieldValue). value_of all (at_name n)) (sym (its_bits of way restored r.restored_fields r.payload_from made))
     ∙ ap (value_of r.restored_fields) (sym e.2)
     in (
@@ -137,7 +138,7 @@ sums-same stack.IpUdp way this that f g here there p q rest a b named among =
     same_checksum way (field_bits way this) (field_bits way that) (drop here this) (wide_bits stack.IpUdp way this f here p) (wide_bits stack.IpUdp way that g there q) (AreBytes-drop here this a)
     (λ n m. others-same this that way n (named n m)) this that a b
     (as_joined stack.IpUdp way this f here p a)
-    (as_joined stack.IpUdp way that g there q b ∙ ap (joined stack.IpUdp way (listed stack.IpUdp (field_bits way that))) (sym rest))
+    (as_joined stack.IpUdp way that g there q b ∙ ap (joined stack.IpUdp way (listed stack.IpUdp way (field_bits way that))) (sym rest))
     (header_size-is_packet stack.IpUdp this p.is_packet) (header_size-is_packet stack.IpUdp that q.is_packet)
     (ap (λ n. drop n this) (sym p.its_payload) ∙ rest ∙ ap (λ n. drop n that) q.its_payload)
 sums-same stack.IpUdpCoap way this that f g here there p q rest a b named among = absurd p.is_packet
@@ -153,14 +154,16 @@ name-same of way this that n named sums among =
 
 pub one-of : (of : Stack) (way : Direction) (this that : List ℕ) (f g : List FieldValue) (here there : ℕ) → FieldsOf of way this f here → FieldsOf of way that g there → drop here this ≡ drop there that → AreBytes this → AreBytes that → ((n : FieldName) → Contains (fields_of_stack of) n → Named this that way n) → this ≡ that
 one-of of way this that f g here there p q rest a b named =
-    let lists : listed of (field_bits way this) ≡ listed of (field_bits way that) =
-    listed-same (field_bits way this) (field_bits way that) (fields_of_stack of)
-    (all_from (λ n. field_bits way this n ≡ field_bits way that n) (fields_of_stack of)
-    (λ n among. name-same of way this that n (named n among) (sums-same of way this that f g here there p q rest a b named) among))
+    let lists : listed of way (field_bits way this) ≡ listed of way (field_bits way that) =
+    listed-same (field_bits way this) (field_bits way that) (fields_in_packet_order of way)
+    (all_from (λ n. field_bits way this n ≡ field_bits way that n) (fields_in_packet_order of way)
+    (λ n there_in.
+    let among : Contains (fields_of_stack of) n = from-order of way n (without_coap of this p.is_packet) there_in in
+    name-same of way this that n (named n among) (sums-same of way this that f g here there p q rest a b named) among))
     in
     as_joined of way this f here p a
     ∙ ap (λ (all : List FieldValue). joined of way all (drop here this)) lists
-    ∙ ap (joined of way (listed of (field_bits way that))) rest
+    ∙ ap (joined of way (listed of way (field_bits way that))) rest
     ∙ sym (as_joined of way that g there q b)
 
 -- the other end restores one packet

@@ -5,6 +5,7 @@ use Rattle.std.proofs.Common.{arith, ap, refl, sym, ◌∙◌, subst, inl, inr}
 use Rattle.std.proofs.lemmas.Bool.{and_parts, not-true, true≢false}
 use Rattle.std.proofs.lemmas.List.Elements.{Contains-get_or}
 use Rattle.schc_ids.specs.declared.ends.Direction.{Direction}
+use Rattle.schc_ids.specs.declared.ends.Direction.TheVariants.{Up, Down}
 use Rattle.schc_ids.specs.declared.ends.Iids.{Iids}
 use Rattle.schc_ids.specs.declared.names.FieldAt.{FieldAt}
 use Rattle.schc_ids.specs.declared.names.FieldName.{FieldName}
@@ -17,12 +18,13 @@ use Rattle.rule_model.specs.declared.value.Computed.{Computed}
 use Rattle.rule_model.specs.Data.{RuleData}
 use Rattle.rule_model.specs.Cover.{covered, stack_of, has_field}
 use Rattle.rule_model.specs.Matches.{Matches}
-use Rattle.ip_udp_fields.specs.Layout.{IsWithoutCoap}
+use Rattle.ip_udp_fields.specs.Layout.{IsWithoutCoap, fields_in_packet_order}
 use Rattle.ip_udp_fields.specs.Fields.{field_in, fields_in, FieldsOf}
 use Rattle.ip_udp_fields.proofs.OrderLemmas.{are_distinct}
 use Rattle.ip_udp_fields.proofs.SplitLemmas.{without_coap}
 use Rattle.packer.specs.Packets.{PacketOf}
 use Rattle.packer.specs.Unpacking.{reads}
+use Rattle.packer.proofs.PacketOrderLemmas.{to-order, from-order}
 use Rattle.packer.proofs.CoverLemmas.{Contains-parts, Contains-map, each_passes, fails_each, some_passes}
 
 -- a packet of a stack without CoAP
@@ -36,10 +38,12 @@ fields-PacketOf stack.Ip way packet fields from h p = p
 fields-PacketOf stack.IpUdp way packet fields from h p = p
 fields-PacketOf stack.IpUdpCoap way packet fields from h p = absurd h
 
-distinct : (of : Stack) → IsWithoutCoap of → are_distinct (fields_of_stack of) ≡ true
-distinct stack.Ip h = refl
-distinct stack.IpUdp h = refl
-distinct stack.IpUdpCoap h = absurd h
+distinct : (of : Stack) (way : Direction) → IsWithoutCoap of → are_distinct (fields_in_packet_order of way) ≡ true
+distinct stack.Ip Up h = refl
+distinct stack.Ip Down h = refl
+distinct stack.IpUdp Up h = refl
+distinct stack.IpUdp Down h = refl
+distinct stack.IpUdpCoap way h = absurd h
 
 -- an element of a mapped list is made of one
 pub Contains-unmap : {X Y : Type 0} (f : X → Y) (xs : List X) (y : Y) → Contains (map f xs) y → (x : X) × Contains xs x × (f x ≡ y)
@@ -70,18 +74,20 @@ once_named way packet (name ∷ names) h =
 pub named-field : (of : Stack) (way : Direction) (packet : List ℕ) (fields : List FieldValue) (from : ℕ) (f : FieldValue) → FieldsOf of way packet fields from → Contains fields f → (name : FieldName) × Contains (fields_of_stack of) name × (field_in way packet name ≡ f)
 unfolding fields_in
 named-field of way packet fields from f p among =
-    Contains-unmap (field_in way packet) (fields_of_stack of) f (subst (λ (all : List FieldValue). Contains all f) p.its_fields among)
+    let m = Contains-unmap (field_in way packet) (fields_in_packet_order of way) f (subst (λ (all : List FieldValue). Contains all f) p.its_fields among) in
+    (m.0, from-order of way m.0 (without_coap of packet p.is_packet) m.1, m.2)
 
 pub field-named : (of : Stack) (way : Direction) (packet : List ℕ) (fields : List FieldValue) (from : ℕ) (name : FieldName) → FieldsOf of way packet fields from → Contains (fields_of_stack of) name → Contains fields (field_in way packet name)
 unfolding fields_in
 field-named of way packet fields from name p among =
-    subst (λ (all : List FieldValue). Contains all (field_in way packet name)) (sym p.its_fields) (Contains-map (field_in way packet) (fields_of_stack of) name among)
+    subst (λ (all : List FieldValue). Contains all (field_in way packet name)) (sym p.its_fields)
+    (Contains-map (field_in way packet) (fields_in_packet_order of way) name (to-order of way name (without_coap of packet p.is_packet) among))
 
 -- no name stands twice
 pub once-fields : (of : Stack) (way : Direction) (packet : List ℕ) (fields : List FieldValue) (from : ℕ) → FieldsOf of way packet fields from → AllPairs (λ f g. f.at ≢ g.at) fields
 unfolding fields_in
 once-fields of way packet fields from p =
-    subst (AllPairs (λ f g. f.at ≢ g.at)) (sym p.its_fields) (once_named way packet (fields_of_stack of) (distinct of (without_coap of packet p.is_packet)))
+    subst (AllPairs (λ f g. f.at ≢ g.at)) (sym p.its_fields) (once_named way packet (fields_in_packet_order of way) (distinct of way (without_coap of packet p.is_packet)))
 
 -- a rule that matches a packet reads packets of its direction
 pub reads-matching : (rule : RuleData) (iids : Iids) (way : Direction) (packet : List ℕ) (fields : List FieldValue) (from : ℕ) (computed : Computed) → FieldsOf (stack_of rule) way packet fields from → Matches rule iids way fields computed → reads rule way ≡ true

@@ -25,7 +25,7 @@ use Rattle.decompress.specs.Reading.{restore_at}
 use Rattle.decompress.proofs.SoundLemmas.{Passes}
 use Rattle.decompress.proofs.LawLemmas.{all_at, passes_at, Stands-from_read}
 use Rattle.decompress.proofs.MatchedLemmas.{reads_back}
-use Rattle.ip_udp_fields.specs.Layout.{IsWithoutCoap, header_size}
+use Rattle.ip_udp_fields.specs.Layout.{IsWithoutCoap, header_size, fields_in_packet_order}
 use Rattle.ip_udp_fields.specs.Fields.{at_name, field_in, fields_in, FieldsOf}
 use Rattle.ip_udp_fields.specs.Checksum.{checksum_of}
 use Rattle.ip_udp_fields.specs.Join.{value_in, contents}
@@ -63,9 +63,9 @@ pub ats : (way : Direction) (packet : List ℕ) (names : List FieldName) → map
 ats way packet [] = refl
 ats way packet (name ∷ names) = ap (λ (rest : List FieldAt). at_name name ∷ rest) (ats way packet names)
 
-ats-packet : (of : Stack) (way : Direction) (packet : List ℕ) (fields : List FieldValue) (from : ℕ) → FieldsOf of way packet fields from → map (λ (f : FieldValue). f.at) fields ≡ map at_name (fields_of_stack of)
+ats-packet : (of : Stack) (way : Direction) (packet : List ℕ) (fields : List FieldValue) (from : ℕ) → FieldsOf of way packet fields from → map (λ (f : FieldValue). f.at) fields ≡ map at_name (fields_in_packet_order of way)
 unfolding fields_in
-ats-packet of way packet fields from p = ap (map (λ (f : FieldValue). f.at)) p.its_fields ∙ ats way packet (fields_of_stack of)
+ats-packet of way packet fields from p = ap (map (λ (f : FieldValue). f.at)) p.its_fields ∙ ats way packet (fields_in_packet_order of way)
 
 -- what is made of an entry's value is what the other end has
 pub made-kept : (iids : Iids) (of : Stack) (packet : List ℕ) (e : EntryData) (value : List Bool) (checksum : ℕ) → Passes of e → (is_compute e.action ≡ true → Contains (fields_of_stack of) e.name) → Agrees iids (computed_over of packet) e value → made_value checksum (length packet - 40) e (restored_value iids e value) ≡ kept_value checksum e value
@@ -137,7 +137,7 @@ module _ (rule : RuleData) (iids : Iids) (way : Direction) (packet : List ℕ) (
   right : first_held (contents (stack_of rule) headers (length (drop from packet))) ≡ None
   right =
       ap first_held (contents_by (stack_of rule) headers fields (length (drop from packet)) covering.without kept_name)
-      ∙ (join_refusal-none (stack_of rule) fields (length (drop from packet)) (joins_again (stack_of rule) way packet fields from p)).right
+      ∙ (join_refusal-none (stack_of rule) way fields (length (drop from packet)) (joins_again (stack_of rule) way packet fields from p)).right
 
   pub rebuilt-restored : rebuilt rule way (restored_fields rule iids way fields) (drop from packet) ≡ Ok (packet_of rule way (restored_fields rule iids way fields) (drop from packet))
   unfolding headed

@@ -27,9 +27,9 @@ use Rattle.rule_model.specs.Findings.{is_length_of, is_msb_wrong, IsAdmitted}
 use Rattle.rule_model.specs.Matches.{Matches}
 use Rattle.rule_model.specs.Residue.{token_bits, msb_bits, WidthHolds, TokenHolds, HasSize, SizeHolds, IsSized}
 use Rattle.rule_model.proofs.EntryRowsLemmas.{EntryHolds-from_IsAdmitted}
-use Rattle.ip_udp_fields.specs.Layout.{bits_of}
+use Rattle.ip_udp_fields.specs.Layout.{fields_in_packet_order, bits_of}
 use Rattle.ip_udp_fields.specs.Fields.{field_in, fields_in}
-use Rattle.ip_udp_fields.proofs.PlaceLemmas.{fields-within}
+use Rattle.ip_udp_fields.proofs.PlaceLemmas.{fields_in_packet_order-within}
 use Rattle.ip_udp_fields.proofs.RefusalLemmas.{header_size-is_packet}
 use Rattle.ip_udp_fields.proofs.SplitLemmas.{field_bits, lengths}
 use Rattle.coap_fields.specs.Message.{Message, spelled}
@@ -98,20 +98,20 @@ pub once-coap : (way : Direction) (packet : List ℕ) (fields : List FieldValue)
 unfolding fields_in
 once-coap way packet fields from p =
     let m : Message = p.its_message.message in
-    let are : fields ≡ map (field_in way packet) (fields_of_stack stack.IpUdp) ++ fields_of_message m = p.its_fields ∙ ap (λ (fs : List FieldValue). map (field_in way packet) (fields_of_stack stack.IpUdp) ++ fs) p.its_message.its_fields in
+    let are : fields ≡ map (field_in way packet) (fields_in_packet_order stack.IpUdp way) ++ fields_of_message m = p.its_fields ∙ ap (λ (fs : List FieldValue). map (field_in way packet) (fields_in_packet_order stack.IpUdp way) ++ fs) p.its_message.its_fields in
     subst (AllPairs (λ f g. f.at ≢ g.at)) (sym are)
-    (once_with way packet (fields_of_stack stack.IpUdp) (fields_of_message m) (names-apart stack.IpUdp tt) (names-below stack.IpUdp tt) (message-above m) (message-once m p.its_message.is_message))
+    (once_with way packet (fields_in_packet_order stack.IpUdp way) (fields_of_message m) (names-apart stack.IpUdp way tt) (names-below stack.IpUdp way tt) (message-above m) (message-once m p.its_message.is_message))
 
 -- a packet with CoAP
 pub sized-coap : (rule : RuleData) (iids : Iids) (way : Direction) (packet : List ℕ) (fields : List FieldValue) (from : ℕ) (computed : Computed) → IsAdmitted rule → IsCoapPacket way packet fields from → Matches rule iids way fields computed → IsSized rule way fields
 unfolding fields_in
 sized-coap rule iids way packet fields from computed admitted p match =
     let m : Message = p.its_message.message in
-    let names : List FieldName = fields_of_stack stack.IpUdp in
+    let names : List FieldName = fields_in_packet_order stack.IpUdp way in
     let heads : List FieldValue = map (field_in way packet) names in
     let message : List FieldValue = fields_of_message m in
     let are : fields ≡ heads ++ message = p.its_fields ∙ ap (λ (fs : List FieldValue). heads ++ fs) p.its_message.its_fields in
-    let within : AllByRecursion (λ n. length (field_bits way packet n) ≡ bits_of n) names = lengths stack.IpUdp way packet names (header_size-is_packet stack.IpUdp packet p.is_udp) (fields-within stack.IpUdp way tt) in
+    let within : AllByRecursion (λ n. length (field_bits way packet n) ≡ bits_of n) names = lengths stack.IpUdp way packet names (header_size-is_packet stack.IpUdp packet p.is_udp) (fields_in_packet_order-within stack.IpUdp way tt) in
     let most : ℕ = length (drop 48 packet) in
     let small : most ≤ 65535 = omega (arith, length-drop 48 packet, size_after-below packet p.is_udp.ipv6) in
     let spelling : length (spelled m) ≤ most = omega (arith, ap (λ (bytes : List ℕ). length bytes) p.its_message.its_spelling) in

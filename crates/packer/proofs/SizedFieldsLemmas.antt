@@ -21,9 +21,9 @@ use Rattle.rule_model.specs.Data.{RuleData}
 use Rattle.rule_model.specs.Findings.{is_length_of, IsAdmitted}
 use Rattle.rule_model.specs.Matches.{Matches}
 use Rattle.rule_model.specs.Residue.{WidthHolds, TokenHolds, SizeHolds, IsSized}
-use Rattle.ip_udp_fields.specs.Layout.{IsWithoutCoap, bits_of}
+use Rattle.ip_udp_fields.specs.Layout.{IsWithoutCoap, fields_in_packet_order, bits_of}
 use Rattle.ip_udp_fields.specs.Fields.{FieldsOf, fields_in}
-use Rattle.ip_udp_fields.proofs.PlaceLemmas.{fields-within}
+use Rattle.ip_udp_fields.proofs.PlaceLemmas.{fields_in_packet_order-within}
 use Rattle.ip_udp_fields.proofs.RefusalLemmas.{header_size-is_packet}
 use Rattle.ip_udp_fields.proofs.SplitLemmas.{field_bits, lengths}
 use Rattle.packer.specs.Packets.{PacketOf}
@@ -45,11 +45,11 @@ size_free _ Variable action operator value h k = absurd (cc)
 sized-headers : (rule : RuleData) (iids : Iids) (way : Direction) (of : Stack) (packet : List ℕ) (fields : List FieldValue) (from : ℕ) (computed : Computed) → IsAdmitted rule → IsWithoutCoap of → FieldsOf of way packet fields from → Matches rule iids way fields computed → IsSized rule way fields
 unfolding fields_in
 sized-headers rule iids way of packet fields from computed admitted h p m =
-    let within : AllByRecursion (λ n. length (field_bits way packet n) ≡ bits_of n) (fields_of_stack of) = lengths of way packet (fields_of_stack of) (header_size-is_packet of packet p.is_packet) (fields-within of way h) in
+    let within : AllByRecursion (λ n. length (field_bits way packet n) ≡ bits_of n) (fields_in_packet_order of way) = lengths of way packet (fields_in_packet_order of way) (header_size-is_packet of packet p.is_packet) (fields_in_packet_order-within of way h) in
     record {
-      each_once = subst (AllPairs (λ f g. f.at ≢ g.at)) (sym p.its_fields) (once_along way packet (fields_of_stack of) (names-apart of h));
+      each_once = subst (AllPairs (λ f g. f.at ≢ g.at)) (sym p.its_fields) (once_along way packet (fields_in_packet_order of way) (names-apart of way h));
       width_holds = λ f c.
-          All-contains (λ f. WidthHolds f.at.name f.value) fields f (subst (All (λ f. WidthHolds f.at.name f.value)) (sym p.its_fields) (widths_along way packet (fields_of_stack of) within)) c;
+          All-contains (λ f. WidthHolds f.at.name f.value) fields f (subst (All (λ f. WidthHolds f.at.name f.value)) (sym p.its_fields) (widths_along way packet (fields_in_packet_order of way) within)) c;
       sendable = λ f e c d same.
           let named : e.name ≡ f.at.name = ap (λ (at : FieldAt). at.name) same in
           let below : is_below_coap e.name ≡ true =

@@ -1,5 +1,5 @@
 -- How packing and unpacking belong together.
-use Rattle.std.specs.Prelude.{ℕ, ◌≡◌, ◌≢◌, ◌≤◌, ◌↔◌, ◌⊎◌, Bool, true, List, [], ◌++◌, length, All, Ok, Some, Contains}
+use Rattle.std.specs.Prelude.{ℕ, ◌≡◌, ◌≢◌, ◌≤◌, ◌↔◌, ◌⊎◌, Bool, true, List, [], ◌++◌, length, Ok, Some, Contains}
 use Rattle.schc_bits.specs.Bits.{AreBytes}
 use Rattle.schc_ids.specs.declared.ends.Direction.{Direction}
 use Rattle.schc_ids.specs.declared.ends.Iids.{Iids}
@@ -9,17 +9,13 @@ use Rattle.rule_model.specs.Cover.{dropped_fields}
 use Rattle.rule_model.specs.Findings.{IsAdmitted}
 use Rattle.rule_model.specs.Residue.{value_of}
 use Rattle.editions.specs.declared.listed.Listed.{Listed}
-use Rattle.editions.specs.Data.{EditionData, IsAscending, lookup}
+pub use Rattle.editions.specs.Data.{IsSound}
+use Rattle.editions.specs.Data.{EditionData, lookup}
 use Rattle.packer.specs.UnpackedData.{UnpackedData}
 use Rattle.packer.specs.Packets.{is_ipv6}
 use Rattle.packer.specs.Schc.{uncompressed, Decodes, IsChosen, IsRestored, MatchesPacket}
 use Rattle.packer.specs.Packing.{packed}
 use Rattle.packer.specs.Unpacking.{unpacked}
-
--- an edition as every edition of the program is: rules that are admitted, in ascending order of RuleID
-pub record IsSound (edition : EditionData) : Type 0 where
-  pub admitted : All (λ listed. IsAdmitted listed.rule) edition.rules
-  pub ascending : IsAscending edition.rules
 
 -- a packet is written under the rule that is chosen, as its SCHC packet
 abbrev pub PacksChosen : Type 0
@@ -73,3 +69,16 @@ DiffersOnlyWhereDropped =
     (rule : RuleData) (iids : Iids) (way : Direction) (packet restored : List ℕ) → IsAdmitted rule → AreBytes packet → AreBytes restored →
     MatchesPacket rule iids way packet → (r : IsRestored rule way packet restored) → (f : FieldValue) → Contains r.restored_fields f →
     f.value ≢ value_of r.fields f.at → Contains (dropped_fields rule way) f.at
+
+-- the rule has one restored packet of the packet: it is this one, and no other
+pub record RestoresOne (rule : RuleData) (way : Direction) (packet : List ℕ) : Type 0 where
+  pub restored : List ℕ
+  pub are_bytes : AreBytes restored
+  pub restores : IsRestored rule way packet restored
+  pub no_other : (other : List ℕ) → AreBytes other → IsRestored rule way packet other → other ≡ restored
+
+-- an admitted rule has one restored packet of each packet that it matches
+abbrev pub OneRestoredPacket : Type 0
+OneRestoredPacket =
+    (rule : RuleData) (iids : Iids) (way : Direction) (packet : List ℕ) → IsAdmitted rule → AreBytes packet → MatchesPacket rule iids way packet →
+    RestoresOne rule way packet

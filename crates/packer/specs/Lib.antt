@@ -1,7 +1,8 @@
 pub mod Packets
 pub mod Schc
 pub mod Packing
-pub mod Headers
+pub mod Splits
+pub mod Searching
 pub mod UnpackedData
 pub mod Ordering
 pub mod Unpacking

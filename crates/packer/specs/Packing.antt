@@ -1,6 +1,7 @@
--- How a packet is written, as a function that computes: of the SCHC packets under the live rules that match, in the order of
--- the RuleIDs, the first with the fewest bits.
-use Rattle.std.specs.Prelude.{ℕ, Bool, if◌then◌else◌, List, [], ◌∷◌, ◌++◌, length, drop, nat_le, Option, Some, None}
+-- How a packet is written, as a function that computes: of the SCHC packets under the live rules that match the one with the
+-- fewest bits, and of several such the one with the lowest RuleID.
+use Rattle.std.specs.Prelude.{ℕ, ◌==◌, Bool, ◌&&◌, ◌||◌, if◌then◌else◌, List, [], ◌∷◌, ◌++◌, length, drop, nat_lt, nat_le, Option, Some, None}
+use Rattle.std.specs.Option.{option_map}
 use Rattle.schc_bits.specs.Bits.{number_bits, octets}
 use Rattle.schc_ids.specs.declared.ends.Direction.{Direction}
 use Rattle.schc_ids.specs.declared.ends.Iids.{Iids}
@@ -10,7 +11,8 @@ use Rattle.rule_model.specs.Cover.{stack_of}
 use Rattle.rule_model.specs.Residue.{residue_of}
 use Rattle.rule_model.specs.Tests.{does_match}
 use Rattle.editions.specs.declared.listed.Listed.{Listed}
-use Rattle.editions.specs.Data.{EditionData}
+use Rattle.editions.specs.Data.{EditionData, lookup}
+use Rattle.packer.specs.declared.choosing.Candidate.{Candidate}
 use Rattle.packer.specs.declared.packing.Packed.{Packed}
 use Rattle.packer.specs.Packets.{split_of, computed_over}
 use Rattle.packer.specs.Schc.{uncompressed, uncompressed_packet}
@@ -39,13 +41,41 @@ unfoldable pub form_by : Iids → Direction → List ℕ → Listed → Option F
 form_by iids way packet listed =
     if listed.live then matched_form listed.rule iids way packet (split_of (stack_of listed.rule) way packet) else None
 
--- of two, the one with fewer bits, and the first where both have as many
+-- a form's RuleID, and how many bits it has
+abbrev pub candidate_of : FormData → Candidate
+candidate_of form = record { rule_id = form.rule_id; bits = length form.bits }
+
+-- the first comes before the other: it has fewer bits, or as many under a RuleID that isn't higher
+abbrev pub is_preferred : Candidate → Candidate → Bool
+is_preferred candidate other =
+    nat_lt candidate.bits other.bits || ((candidate.bits == other.bits) && nat_le candidate.rule_id other.rule_id)
+
+-- of two, the one with fewer bits, and of two with as many the one with the lower RuleID
 abbrev pub shorter : Option FormData → Option FormData → Option FormData
 shorter None later = later
 shorter (Some form) None = Some form
-shorter (Some form) (Some later) = if nat_le (length form.bits) (length later.bits) then Some form else Some later
+shorter (Some form) (Some later) = if is_preferred (candidate_of form) (candidate_of later) then Some form else Some later
 
--- the first with the fewest bits, under these rules
+-- the same of two candidates
+abbrev pub smaller : Option Candidate → Option Candidate → Option Candidate
+smaller None other = other
+smaller (Some candidate) None = Some candidate
+smaller (Some candidate) (Some other) = if is_preferred candidate other then Some candidate else Some other
+
+-- the first of the candidates of these RuleIDs
+abbrev pub smallest_of : (ℕ → Option Candidate) → List ℕ → Option Candidate
+smallest_of candidate [] = None
+smallest_of candidate (id ∷ ids) = smaller (candidate id) (smallest_of candidate ids)
+
+-- the candidate that is listed under a RuleID, where it is live and matches
+abbrev pub candidate_by : Iids → Direction → List ℕ → Option Listed → Option Candidate
+candidate_by iids way packet None = None
+candidate_by iids way packet (Some listed) = option_map candidate_of (form_by iids way packet listed)
+
+abbrev pub candidate_under : List Listed → Iids → Direction → List ℕ → ℕ → Option Candidate
+candidate_under rules iids way packet id = candidate_by iids way packet (lookup rules id)
+
+-- the one that comes first, under these rules
 abbrev pub shortest : Iids → Direction → List ℕ → List Listed → Option FormData
 shortest iids way packet [] = None
 shortest iids way packet (listed ∷ later) = shorter (form_by iids way packet listed) (shortest iids way packet later)

@@ -89,6 +89,10 @@ pub data Decodes (edition : EditionData) (iids : Iids) (way : Direction) (bits :
   whole : AreBytes packet → DecodesWhole bits packet → Decodes edition iids way bits packet uncompressed
   by_rule : (id : ℕ) (listed : Listed) → AreBytes packet → id ≢ uncompressed → lookup edition.rules id ≡ Some listed → DecodesBy listed.rule iids way bits packet → Decodes edition iids way bits packet id
 
+-- the bits aren't read as any packet
+abbrev pub NothingDecodes : EditionData → Iids → Direction → List Bool → Type 0
+NothingDecodes edition iids way bits = (packet : List ℕ) (id : ℕ) → ¬ Decodes edition iids way bits packet id
+
 -- a live rule that matches the packet, and the packet's SCHC packet under it
 pub record IsCandidate (edition : EditionData) (iids : Iids) (way : Direction) (packet : List ℕ) (listed : Listed) (bits : List Bool) : Type 0 where
   pub listing : Contains edition.rules listed

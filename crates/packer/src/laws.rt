@@ -6,6 +6,7 @@ ghost use Rattle.packer.specs.Laws.{
   ReadsWhatWasWritten,
   KeepsWhereNothingIsDropped,
   DiffersOnlyWhereDropped,
+  OneRestoredPacket,
 };
 
 /// A packet is written under the live rule that matches it and gives the fewest bits, and of
@@ -37,4 +38,11 @@ pub fn keeps_where_nothing_is_dropped()
 /// in the direction: every other field arrives as it was.
 pub fn differs_only_where_dropped()
     ensures { DiffersOnlyWhereDropped }
+{}
+
+/// Of a packet that an admitted rule matches there is exactly one restored packet. So what is
+/// handed up as the restored packet of what was handed down is what the rule keeps of it, and
+/// nothing else.
+pub fn one_restored_packet()
+    ensures { OneRestoredPacket }
 {}

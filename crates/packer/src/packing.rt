@@ -4,26 +4,18 @@ ghost use Rattle.std.specs.Prelude.{◌≡◌, ◌≤◌, ◌<◌, true, length,
 ghost use Rattle.rule_model.specs.Cover.{stack_of};
 ghost use Rattle.rule_model.specs.Findings.{IsAdmitted};
 ghost use Rattle.rule_model.specs.Matches.{Matches};
-ghost use Rattle.packer.specs.Headers.{AreOf, headers_of};
-ghost use Rattle.packer.specs.Packets.{PacketOf, is_ipv6};
+ghost use Rattle.packer.specs.Packets.{PacketOf, is_ipv6, split_of};
 ghost use Rattle.packer.specs.Schc.{IsChosen};
-ghost use Rattle.packer.specs.Packing.{
-  written_form,
-  matched_form,
-  form_by,
-  shorter,
-  shortest,
-  form_or_whole,
-  packed,
-};
+ghost use Rattle.packer.specs.Packing.{form_or_whole, packed, shortest, written_form};
+ghost use Rattle.packer.specs.Searching.{IsFirstForm, IsSplitFarEnough};
 
-use crate::stacks::{Headers, Stacks};
+use crate::choosing::{first_of_ip, first_of_udp, smaller};
+use crate::splits::{cut_to, split_ip};
 use compress::residue;
-use editions::{Edition, Listed};
-use matching::matches;
+use editions::Edition;
 use rule_model::{Admitted, Computed, Split};
 use schc_bits::Bits;
-use schc_ids::{Direction, Iids};
+use schc_ids::{Direction, Iids, Stack};
 use std::alloc::{AllocError, Global};
 use std::marker::Model;
 
@@ -99,96 +91,60 @@ fn written_form(
     Ok(Form { rule_id, bits })
 }
 
-/// The SCHC packet under the rule, where the rule matches the packet with these headers.
-fn matched_form(
+/// The SCHC packet under the rule that is chosen.
+fn first_form(
     alloc: Global,
-    rule: &Admitted,
+    edition: &Edition,
+    rule_id: u16,
+    direction: Direction,
+    packet: &[u8],
+    split: Split,
+) -> Result<Form, AllocError>
+    requires first { (iids : Iids) × IsFirstForm edition.now.rules iids direction packet.now rule_id }
+    requires far { IsSplitFarEnough edition.now.rules direction packet.now split }
+    ensures { IfOk result (λ form. (iids : Iids) → (first : IsFirstForm edition.now.rules iids direction packet.now rule_id) → form ≡ first.form) }
+{
+    let listed = edition.lookup(rule_id).unwrap();
+    let own = cut_to(listed.rule.stack(), split);
+    written_form(alloc, &listed.rule, direction, packet, &own)
+}
+
+/// The form of an IPv6 packet: under the rule that is chosen, or as it is where there is none.
+fn form_of_split(
+    alloc: Global,
+    edition: &Edition,
     iids: Iids,
     direction: Direction,
     packet: &[u8],
-    headers: &Headers,
-) -> Result<Option<Form>, AllocError>
-    requires { headers_of (stack_of rule.now) direction packet.now ≡ Some headers.now }
-    ensures { IfOk result (λ form. form ≡ matched_form rule.now iids direction packet.now (Some headers.now.split)) }
+    split: Split,
+) -> Result<Form, AllocError>
+    requires { split_of Stack.Ip direction packet.now ≡ Some split }
+    ensures { IfOk result (λ form. form ≡ form_or_whole packet.now (shortest iids direction packet.now edition.now.rules)) }
 {
-    if !matches(
-        rule,
-        iids,
-        direction,
-        &headers.split.fields,
-        &headers.computed,
-    ) {
-        return Ok(None);
+    let mut split = split;
+    let plain = first_of_ip(edition, iids, direction, packet, &split);
+    let other = first_of_udp(alloc, edition, iids, direction, packet, &mut split)?;
+    match smaller(plain, other) {
+        Some(first) => first_form(alloc, edition, first.rule_id, direction, packet, split),
+        None => whole_form(alloc, packet),
     }
-    let form = written_form(alloc, rule, direction, packet, &headers.split)?;
-    Ok(Some(form))
 }
 
-/// The SCHC packet under a listed rule, where it is live and matches.
-#[tactic(auto, unfolding(crate::specs::Packing::form_by))]
-fn form_by(
+/// How the packet is written. It isn't split where there are no rules.
+fn form_of(
     alloc: Global,
-    listed: &Listed,
+    edition: &Edition,
     iids: Iids,
     direction: Direction,
     packet: &[u8],
-    stacks: &Stacks,
-) -> Result<Option<Form>, AllocError>
-    requires { AreOf direction packet.now stacks.now }
-    ensures { IfOk result (λ form. form ≡ form_by iids direction packet.now listed.now) }
+) -> Result<Form, AllocError>
+    ensures { IfOk result (λ form. form ≡ form_or_whole packet.now (shortest iids direction packet.now edition.now.rules)) }
 {
-    if !listed.live {
-        return Ok(None);
+    if edition.rules().is_empty() {
+        return whole_form(alloc, packet);
     }
-    match stacks.found(listed.rule.stack()) {
-        Some(headers) => matched_form(alloc, &listed.rule, iids, direction, packet, headers),
-        None => Ok(None),
-    }
-}
-
-/// Of two forms the one with fewer bits, and the first where both have as many.
-fn shorter(first: Option<Form>, later: Option<Form>) -> Option<Form>
-    ensures { result ≡ shorter first later }
-{
-    match (first, later) {
-        (Some(first), Some(later)) => {
-            if first.bits.len() <= later.bits.len() {
-                Some(first)
-            } else {
-                Some(later)
-            }
-        }
-        (Some(first), None) => Some(first),
-        (None, later) => later,
-    }
-}
-
-/// The first form with the fewest bits, under these rules.
-fn shortest(
-    alloc: Global,
-    rules: &[Listed],
-    iids: Iids,
-    direction: Direction,
-    packet: &[u8],
-    stacks: &Stacks,
-) -> Result<Option<Form>, AllocError>
-    requires { AreOf direction packet.now stacks.now }
-    ensures { IfOk result (λ form. form ≡ shortest iids direction packet.now rules.now) }
-{
-    let mut best = None;
-    for listed in rules {
-        let form = form_by(alloc, listed, iids, direction, packet, stacks)?;
-        best = shorter(best, form);
-    }
-    Ok(best)
-}
-
-/// The form, or the packet as it is where there is none.
-fn form_or_whole(alloc: Global, packet: &[u8], form: Option<Form>) -> Result<Form, AllocError>
-    ensures { IfOk result (λ whole. whole ≡ form_or_whole packet.now form) }
-{
-    match form {
-        Some(form) => Ok(form),
+    match split_ip(alloc, direction, packet)? {
+        Some(split) => form_of_split(alloc, edition, iids, direction, packet, split),
         None => whole_form(alloc, packet),
     }
 }
@@ -212,10 +168,9 @@ pub fn pack(
     ensures chosen { IfOk result (λ written. IsChosen edition.now iids direction packet.now written.rule_id written.bits) }
     ensures small { IfOk result (λ written. written.rule_id < 256) }
     ensures with_id { IfOk result (λ written. 8 ≤ length written.bits) }
+    ensures short { length packet.now ≤ 1500 → IfOk result (λ written. length written.bits ≤ 12068) }
 {
-    let stacks = Stacks::of(alloc, direction, packet)?;
-    let shortest = shortest(alloc, edition.rules(), iids, direction, packet, &stacks)?;
-    let form = form_or_whole(alloc, packet, shortest)?;
+    let form = form_of(alloc, edition, iids, direction, packet)?;
     Ok(Packed {
         edition: edition.number(),
         rule_id: form.rule_id,

@@ -1,11 +1,12 @@
 //! Reading a packet.
 
-ghost use Rattle.std.specs.Prelude.{◌≡◌, ◌≤◌, ◌⊎◌, true, Bool, List, length, drop, Ok, Err, IfOk, IfErr, IfSome, IfNone};
+ghost use Rattle.std.specs.Prelude.{◌≡◌, ◌≤◌, ◌*◌, ◌<◌, ◌⊎◌, true, Bool, List, length, drop, Ok, Err, IfOk, IfErr, IfSome, IfNone};
 ghost use Rattle.schc_bits.specs.Bits.{bytes_of};
-ghost use Rattle.editions.specs.Data.{lookup};
+ghost use Rattle.editions.specs.Data.{IsSound, lookup};
 ghost use Rattle.decompress.specs.Reading.{restore_at};
 ghost use Rattle.packer.specs.Packets.{is_ipv6};
 ghost use Rattle.packer.specs.Rebuilding.{AreRestored};
+ghost use Rattle.packer.specs.Schc.{Decodes, NothingDecodes};
 ghost use Rattle.packer.specs.Unpacking.{
   read_by,
   read_under,
@@ -20,7 +21,7 @@ use crate::rebuilding::rebuild;
 use decompress::restore;
 use editions::Edition;
 use rule_model::{Admitted, Fields};
-use schc_bits::{Bits, Octets, number_of, whole_bytes};
+use schc_bits::{Bits, Octets, Part};
 use schc_ids::{Direction, FieldAt, FieldName, Iids, ResidueFault, UnpackFault};
 use std::alloc::Global;
 use std::marker::Model;
@@ -63,11 +64,11 @@ pub fn is_ipv6(packet: &[u8]) -> bool
 }
 
 /// A packet that no rule compresses: the whole bytes.
-fn read_whole(alloc: Global, bits: &[bool]) -> Result<Octets, UnpackFault>
+fn read_whole(alloc: Global, bits: &Part<'_>) -> Result<Octets, UnpackFault>
     ensures ok { IfOk result (λ packet. read_whole (bytes_of bits.now) ≡ Ok packet.items) }
     ensures err { IfErr result (λ fault. (fault ≡ UnpackFault.Memory) ⊎ (read_whole (bytes_of bits.now) ≡ Err fault)) }
 {
-    match whole_bytes(alloc, bits) {
+    match bits.to_whole_bytes(alloc) {
         Ok(packet) => {
             if is_ipv6(packet.as_slice()) {
                 Ok(packet)
@@ -85,13 +86,13 @@ fn read_payload(
     rule: &Admitted,
     direction: Direction,
     fields: &Fields,
-    rest: &[bool],
+    rest: &Part<'_>,
 ) -> Result<Octets, UnpackFault>
     requires { AreRestored rule.now direction fields.now.items }
     ensures ok { IfOk result (λ packet. rebuilt rule.now direction fields.now.items (bytes_of rest.now) ≡ Ok packet.items) }
     ensures err { IfErr result (λ fault. (fault ≡ UnpackFault.Memory) ⊎ (rebuilt rule.now direction fields.now.items (bytes_of rest.now) ≡ Err fault)) }
 {
-    match whole_bytes(alloc, rest) {
+    match rest.to_whole_bytes(alloc) {
         Ok(payload) => rebuild(alloc, rule, direction, fields, payload.as_slice()),
         Err(_) => Err(UnpackFault::Memory),
     }
@@ -113,8 +114,8 @@ fn read_by(
 {
     match restore(alloc, rule, iids, direction, bits, RULE_ID) {
         Ok(restored) => {
-            let rest = &bits.as_slice()[restored.next..];
-            read_payload(alloc, rule, direction, &restored.fields, rest)
+            let rest = bits.as_part().after(restored.next);
+            read_payload(alloc, rule, direction, &restored.fields, &rest)
         }
         Err(fault) => Err(fault),
     }
@@ -125,6 +126,7 @@ fn reader(edition: &Edition, id: u16, direction: Direction) -> Option<&Admitted>
     ensures none { IfNone result ((iids : Iids) → (bits : List Bool) → read_by id iids direction (lookup edition.now.rules id) bits ≡ Err (UnpackFault.UnknownRule id)) }
     ensures some { IfSome result (λ rule. (reads rule.now direction ≡ true) × ((iids : Iids) → (bits : List Bool)
         → read_by id iids direction (lookup edition.now.rules id) bits ≡ rebuilt_from rule.now direction (restore_at rule.now iids direction bits))) }
+    ensures sound { IsSound edition.now }
 {
     let listed = edition.lookup(id)?;
     if listed.rule.serves(direction) {
@@ -147,13 +149,38 @@ fn read_under(
     ensures ok { IfOk result (λ packet. read_under edition.now iids direction id (drop 8 bits.now) ≡ Ok packet.items) }
     ensures err { IfErr result (λ fault. (fault ≡ UnpackFault.Memory)
         ⊎ (read_under edition.now iids direction id (drop 8 bits.now) ≡ Err fault)) }
+    ensures sound { IsSound edition.now }
 {
+    let rule = reader(edition, id, direction);
     if id == UNCOMPRESSED {
-        return read_whole(alloc, &bits.as_slice()[RULE_ID..]);
+        return read_whole(alloc, &bits.as_part().after(RULE_ID));
     }
-    match reader(edition, id, direction) {
+    match rule {
         Some(rule) => read_by(alloc, rule, iids, direction, bits),
         None => Err(UnpackFault::UnknownRule(id)),
+    }
+}
+
+/// The RuleID, and what follows it.
+#[tactic(auto, unfolding(crate::specs::Unpacking::unpacked))]
+fn read(
+    alloc: Global,
+    edition: &Edition,
+    iids: Iids,
+    direction: Direction,
+    bits: &Bits,
+) -> Result<Unpacked, UnpackFault>
+    ensures ok { IfOk result (λ read. unpacked edition.now iids direction bits.now ≡ Ok read) }
+    ensures err { IfErr result (λ fault. (fault ≡ UnpackFault.Memory) ⊎ (unpacked edition.now iids direction bits.now ≡ Err fault)) }
+    ensures sound { (length bits.now < 8) ⊎ IsSound edition.now }
+{
+    if bits.len() < RULE_ID {
+        return Err(UnpackFault::BadResidue(0, ResidueFault::Short));
+    }
+    let rule_id = bits.as_part().front(RULE_ID).number() as u16;
+    match read_under(alloc, edition, iids, direction, rule_id, bits) {
+        Ok(packet) => Ok(Unpacked { rule_id, packet }),
+        Err(fault) => Err(fault),
     }
 }
 
@@ -165,7 +192,6 @@ fn read_under(
 /// that is neither 22 nor that of a listed rule which serves the direction; `BadResidue` at the
 /// first entry that can't be read; `BadPacket` for the first field that keeps the restored fields
 /// from being a packet. Or want of memory.
-#[tactic(auto, unfolding(crate::specs::Unpacking::unpacked))]
 pub fn unpack(
     alloc: Global,
     edition: &Edition,
@@ -175,13 +201,9 @@ pub fn unpack(
 ) -> Result<Unpacked, UnpackFault>
     ensures ok { IfOk result (λ read. unpacked edition.now iids direction bits.now ≡ Ok read) }
     ensures err { IfErr result (λ fault. (fault ≡ UnpackFault.Memory) ⊎ (unpacked edition.now iids direction bits.now ≡ Err fault)) }
+    ensures says { IfOk result (λ read. Decodes edition.now iids direction bits.now read.packet read.rule_id) }
+    ensures none { IfErr result (λ fault. (fault ≡ UnpackFault.Memory) ⊎ NothingDecodes edition.now iids direction bits.now) }
+    ensures bound { IfOk result (λ read. (length read.packet ≤ 65575) ⊎ (8 * length read.packet ≤ length bits.now)) }
 {
-    if bits.len() < RULE_ID {
-        return Err(UnpackFault::BadResidue(0, ResidueFault::Short));
-    }
-    let rule_id = number_of(&bits.as_slice()[..RULE_ID]) as u16;
-    match read_under(alloc, edition, iids, direction, rule_id, bits) {
-        Ok(packet) => Ok(Unpacked { rule_id, packet }),
-        Err(fault) => Err(fault),
-    }
+    read(alloc, edition, iids, direction, bits)
 }

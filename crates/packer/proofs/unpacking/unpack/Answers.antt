@@ -1,13 +1,17 @@
-use Rattle.std.proofs.Common.{arith, subst, ◌≤◌, ◌<◌, ◌^◌, length, take}
-use Rattle.std.proofs.lemmas.List.{length-take-le}
-use Rattle.schc_bits.specs.Bits.{bits_value}
-use Rattle.schc_bits.proofs.NumberBits.{bits_value-below}
+use Rattle.std.specs.Prelude.{◌⊎◌}
+use Rattle.std.proofs.Common.{inl, inr}
+use Rattle.std.proofs.lemmas.Result.{IfOk-weaker, IfErr-weaker}
+use Rattle.packer.proofs.SaysLemmas.{says-read, none-read, bound-read}
 use Rattle.packer.proofs.unpacking.unpack.Goals as goal
 
-pub overflow_cast-rule_id : goal.overflow_cast-rule_id
-overflow_cast-rule_id c =
-    let long : 8 ≤ length c.as_slice.result.now = rw c.as_slice.ensures (omega (arith, c.if-len-lt-RULE_ID.false, c.len.ensures)) in
-    let below : bits_value (take 8 c.as_slice.result.now) < 2 ^ 8 =
-    subst (λ n. bits_value (take 8 c.as_slice.result.now) < 2 ^ n) (length-take-le 8 c.as_slice.result.now long) (bits_value-below (take 8 c.as_slice.result.now))
-    in
-    omega (arith, c.number_of-rule_id.ensures, below)
+pub returns-clause-says : goal.returns-clause-says
+returns-clause-says c =
+    IfOk-weaker c.read.result _ _ (λ read is. says-read c.args.edition.now c.args.iids c.args.direction c.args.bits.now read c.read.ensures.sound is) c.read.ensures.ok
+
+pub returns-clause-none : goal.returns-clause-none
+returns-clause-none c =
+    IfErr-weaker c.read.result _ _ (λ fault is. none-read c.args.edition.now c.args.iids c.args.direction c.args.bits.now fault c.read.ensures.sound is) c.read.ensures.err
+
+pub returns-clause-bound : goal.returns-clause-bound
+returns-clause-bound c =
+    IfOk-weaker c.read.result _ _ (λ read is. bound-read c.args.edition.now c.args.iids c.args.direction c.args.bits.now read c.read.ensures.sound is) c.read.ensures.ok
