@@ -1,5 +1,5 @@
 -- How a packet is written, as far as a frame needs it: the RuleID stands first.
-use Rattle.std.proofs.Common.{ℕ, ◌≡◌, Bool, true, false, cond, List, [], ◌∷◌, ◌++◌, length, drop, Option, Some, None, IfSome, nat_le, refl, sym, ap}
+use Rattle.std.proofs.Common.{ℕ, ◌≡◌, Bool, true, false, cond, List, [], ◌∷◌, ◌++◌, length, drop, Option, Some, None, IfSome, refl, sym, ap}
 use Rattle.std.proofs.lemmas.List.{drop_at}
 use Rattle.schc_bits.specs.Bits.{number_bits, octets}
 use Rattle.schc_bits.proofs.NumberBits.{length-number_bits}
@@ -12,7 +12,7 @@ use Rattle.rule_model.specs.Tests.{does_match}
 use Rattle.editions.specs.declared.listed.Listed.{Listed}
 use Rattle.editions.specs.Data.{EditionData}
 use Rattle.packer.specs.Packets.{split_of, computed_over}
-use Rattle.packer.specs.Packing.{FormData, written_form, matched_form, form_by, shorter, shortest, form_or_whole, packed}
+use Rattle.packer.specs.Packing.{FormData, written_form, matched_form, form_by, candidate_of, is_preferred, shorter, shortest, form_or_whole, packed}
 use Rattle.packer.specs.Schc.{uncompressed}
 use Rattle.end_core.proofs.FrameLemmas.{BeginsWithId}
 
@@ -49,7 +49,7 @@ either-begins false form later h k = k
 shorter-begins : (these those : Option FormData) → IfSome these Begins → IfSome those Begins → IfSome (shorter these those) Begins
 shorter-begins None those h k = k
 shorter-begins (Some form) None h k = h
-shorter-begins (Some form) (Some later) h k = either-begins (nat_le (length form.bits) (length later.bits)) form later h k
+shorter-begins (Some form) (Some later) h k = either-begins (is_preferred (candidate_of form) (candidate_of later)) form later h k
 
 shortest-begins : (iids : Iids) (way : Direction) (packet : List ℕ) (rules : List Listed) → IfSome (shortest iids way packet rules) Begins
 shortest-begins iids way packet [] = tt

@@ -1,6 +1,7 @@
 -- What one end of the link keeps, as contracts see it.
 use Rattle.std.specs.Prelude.{ℕ, ◌+◌, ◌/◌, ◌<◌, ◌≤◌, Bool, List, length, drop}
 use Rattle.std.specs.List.{AllByRecursion}
+use Rattle.schc_ids.specs.Params.{IsParams}
 use Rattle.schc_ids.specs.declared.ends.EndParams.{EndParams}
 use Rattle.schc_ids.specs.declared.ends.Role.{Role}
 use Rattle.editions.specs.Data.{EditionData}
@@ -15,10 +16,6 @@ pub record EndData : Type 0 where
   pub writes : EditionData
   pub queue : List Packed
 
--- the most bytes of a frame that an end may be made with
-abbrev pub IsMtu : ℕ → Type 0
-IsMtu mtu = (15 ≤ mtu) × (mtu ≤ 242)
-
 -- the bits of an SCHC packet after its RuleID, which has 8 bits (RFC 9011, section 5.1)
 abbrev pub after_id : List Bool → List Bool
 after_id bits = drop 8 bits
@@ -28,13 +25,17 @@ after_id bits = drop 8 bits
 abbrev pub frame_size : List Bool → ℕ
 frame_size bits = (length (after_id bits) + 7) / 8
 
--- a packet that can wait: its RuleID is a port, it has the RuleID's bits, and it fits a frame
-pub record IsSendable (mtu : ℕ) (form : Packed) : Type 0 where
+-- a packet that can wait: its RuleID is a port, and it has the RuleID's bits
+pub record IsForm (form : Packed) : Type 0 where
   pub is_port : form.rule_id < 256
   pub has_id : 8 ≤ length form.bits
-  pub fits : frame_size form.bits ≤ mtu
+
+-- a packet that goes in one frame
+abbrev pub FitsFrame : ℕ → Packed → Type 0
+FitsFrame mtu form = frame_size form.bits ≤ mtu
 
 -- what each end keeps
-pub record IsEnd (mtu : ℕ) (queue : List Packed) : Type 0 where
-  pub in_range : IsMtu mtu
-  pub sendable : AllByRecursion (IsSendable mtu) queue
+pub record IsEnd (params : EndParams) (queue : List Packed) : Type 0 where
+  pub in_range : IsParams params
+  pub forms : AllByRecursion IsForm queue
+  pub fit : AllByRecursion (FitsFrame params.mtu) queue

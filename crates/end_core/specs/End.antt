@@ -1,8 +1,9 @@
 -- One end of the link: what it answers to each event, and the end that it is then.
-use Rattle.std.specs.Prelude.{ℕ, Bool, true, false, not, ◌&&◌, ◌||◌, ◌==◌, nat_lt, nat_le, if◌then◌else◌, List, [], ◌∷◌, ◌++◌, length, drop, Option, Some, None, Result, Ok, Err, slice_get}
+use Rattle.std.specs.Prelude.{ℕ, Bool, true, false, not, ◌||◌, ◌==◌, nat_lt, nat_le, if◌then◌else◌, List, [], ◌∷◌, ◌++◌, length, drop, Option, Some, None, Result, Ok, Err, slice_get}
 use Rattle.schc_bits.specs.Bits.{number_bits, octets, padded, bytes_of}
-use Rattle.schc_ids.specs.Ends.{other_role, sent_direction}
-use Rattle.schc_ids.specs.declared.ends.Direction.{Direction}
+use Rattle.schc_ids.specs.Ends.{taken_direction}
+use Rattle.schc_ids.specs.Ends.{sent_direction}
+use Rattle.schc_ids.specs.Limits.{max_packet, queue_room}
 use Rattle.schc_ids.specs.declared.ends.EndParams.{EndParams}
 use Rattle.schc_ids.specs.declared.ends.Role.{Role}
 use Rattle.schc_ids.specs.declared.faults.UnpackFault.{UnpackFault}
@@ -14,9 +15,13 @@ use Rattle.packer.specs.UnpackedData.{UnpackedData}
 use Rattle.packer.specs.Unpacking.{unpacked}
 use Rattle.packer.specs.declared.packing.Packed.{Packed}
 use Rattle.event_data.specs.Records.{FrameData}
-use Rattle.event_data.specs.declared.notes.Cause.{Cause}
-use Rattle.event_data.specs.declared.notes.Cause.TheVariants.{UnknownPort, Unpack}
-use Rattle.event_data.specs.declared.notes.Note.TheVariants as note
+use Rattle.schc_ids.specs.declared.notes.Cause.{Cause}
+use Rattle.schc_ids.specs.declared.notes.Cause.TheVariants.{UnknownPort, Unpack}
+use Rattle.schc_ids.specs.declared.notes.Note.TheVariants as note
+use Rattle.schc_ids.specs.declared.notes.Report.{Report}
+use Rattle.lorawan_profile.specs.Ports.{meaning_of}
+use Rattle.lorawan_profile.specs.declared.ports.PortMeaning.{PortMeaning}
+use Rattle.lorawan_profile.specs.declared.ports.PortMeaning.TheVariants.{Whole}
 use Rattle.event_data.specs.declared.outcomes.Accepted.{Accepted}
 use Rattle.event_data.specs.declared.outcomes.DownFault.{DownFault}
 use Rattle.event_data.specs.declared.outcomes.DownFault.TheVariants.{NotIpv6, TooLong, Full}
@@ -40,14 +45,14 @@ form_of end packet = packed end.writes end.params.iids (sent_direction end.role)
 
 -- the packet has more than 1,500 bytes, or doesn't fit a frame as it is written
 abbrev pub is_too_long : ℕ → List ℕ → Packed → Bool
-is_too_long mtu packet form = nat_lt 1500 (length packet) || nat_lt mtu (frame_size form.bits)
+is_too_long mtu packet form = nat_lt max_packet (length packet) || nat_lt mtu (frame_size form.bits)
 
 -- why the end refuses a packet that it writes so, if it does
 unfoldable pub refusal : EndData → List ℕ → Packed → Option DownFault
 refusal end packet form =
     if not (is_ipv6 packet) then Some NotIpv6
     else if is_too_long end.params.mtu packet form then Some TooLong
-    else if nat_le 8 (length end.queue) then Some Full
+    else if nat_le queue_room (length end.queue) then Some Full
     else None
 
 -- what the end answers that takes the packet
@@ -75,7 +80,7 @@ frame_of form = record { port = form.rule_id; bytes = bytes_of (padded (after_id
 
 -- what the end says of the frame
 abbrev pub emitted : Packed → Emitted
-emitted form = record { frame = frame_of form; kind = kind.Whole }
+emitted form = record { frame = frame_of form; kind = kind.Whole; report = None }
 
 -- the end after its first packet went
 abbrev pub without_first : EndData → EndData
@@ -91,19 +96,9 @@ slot_step end = slot_from end (slice_get end.queue 0)
 
 -- A frame arrives.
 
--- a port by which a whole SCHC packet comes: all but 0, those of fragments and answers, and those from 224 on (RFC 9011,
--- section 5.1)
-unfoldable pub is_whole : ℕ → Bool
-is_whole port =
-    not (port == 0) && not (port == 20) && not (port == 21) && not (port == 222) && not (port == 223) && nat_lt port 224
-
 -- the bits that a frame carries of an SCHC packet: the port is the RuleID
 abbrev pub carried : FrameData → List Bool
 carried frame = number_bits 8 frame.port ++ octets frame.bytes
-
--- the direction of what the end takes
-abbrev pub taken_direction : Role → Direction
-taken_direction role = sent_direction (other_role role)
 
 -- what the end reads from a frame, with the edition that it knows
 abbrev pub read : EndData → FrameData → Result UnpackedData UnpackFault
@@ -111,23 +106,44 @@ read end frame = unpacked end.known end.params.iids (taken_direction end.role) (
 
 -- the frame is refused
 abbrev pub refused : Cause → Taken
-refused cause = record { up = None; note = note.Refused cause }
+refused cause = record { up = None; report = None; note = note.Refused cause }
 
 -- what the end answers to a frame that carries a whole packet, which it reads with the edition of this number
 unfoldable pub taken_whole : ℕ → Result UnpackedData UnpackFault → Taken
 taken_whole number (Ok unpacked) = record {
   up = Some (record { edition = number; rule_id = unpacked.rule_id; packet = unpacked.packet });
+  report = None;
   note = note.Small;
 }
 taken_whole number (Err fault) = refused (Unpack fault)
 
+-- what the end answers to a frame by whose port this comes: as long as there are no sessions, by all ports but those of whole
+-- packets comes nothing
+abbrev pub taken_by : EndData → FrameData → PortMeaning → Taken
+taken_by end frame Whole = taken_whole end.known.number (read end frame)
+taken_by end frame meaning = refused UnknownPort
+
 -- what the end answers to a frame
 unfoldable pub taken : EndData → FrameData → Taken
-taken end frame = if is_whole frame.port then taken_whole end.known.number (read end frame) else refused UnknownPort
+taken end frame = taken_by end frame (meaning_of end.role frame.port)
 
 -- a frame arrives, and the end stays as it is
 unfoldable pub take_step : EndData → FrameData → EndData × Taken
 take_step end frame = (end, taken end frame)
+
+-- Time passes, and sessions are given up.
+
+-- a tick passes: as long as there are no sessions, no timer of an end runs
+unfoldable pub tick_step : EndData → EndData × Option Report
+tick_step end = (end, None)
+
+-- the end gives up the session that it sends: there is none
+unfoldable pub abort_step : EndData → EndData × Option Report
+abort_step end = (end, None)
+
+-- a timer of the end runs
+unfoldable pub is_armed : EndData → Bool
+is_armed end = false
 
 -- An edition of rules is offered, or allowed.
 

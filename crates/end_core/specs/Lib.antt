@@ -1,2 +1,4 @@
 pub mod Data
+pub mod Events
 pub mod End
+pub mod EndStep

@@ -2,40 +2,39 @@
 
 ghost use Rattle.std.specs.Prelude.{◌≡◌, ◌<◌, ◌≤◌, ◌⊎◌, true, length, Ok, Err, IfOk, IfErr, IfSome, OnErr};
 ghost use Rattle.packer.specs.Packets.{is_ipv6};
-ghost use Rattle.event_data.specs.Outcomes.{IsNote};
-ghost use Rattle.end_core.specs.Data.{IsMtu, IsEnd};
+ghost use Rattle.schc_ids.specs.Limits.{max_packet, max_mtu};
+ghost use Rattle.schc_ids.specs.Params.{IsParams};
+ghost use Rattle.lorawan_profile.specs.Ports.{meaning_of};
+ghost use Rattle.end_core.specs.Data.{IsEnd};
+ghost use Rattle.end_core.specs.Events.{IsOutcomeOf, Take, Took};
 ghost use Rattle.end_core.specs.End.{
   new_end,
   form_of,
   down_step,
   slot_step,
-  is_whole,
+  read,
   refused,
   taken_whole,
   take_step,
+  tick_step,
+  abort_step,
+  is_armed,
   offer_step,
   allow_step,
 };
 
 use crate::forms::{carried, frame_of, frame_size};
-use crate::ports::is_whole;
 use editions::Edition;
-use event_data::{
-    Accepted, Cause, DownFault, EmitKind, Emitted, Frame, HandUp, Note, Offered, Taken,
-};
+use event_data::{Accepted, DownFault, EmitKind, Emitted, Frame, HandUp, Offered, Taken};
+use lorawan_profile::{PortMeaning, meaning};
 use packer::{Packed, Unpacked, is_ipv6, pack, unpack};
-use schc_ids::{EndParams, Role, UnpackFault};
+use schc_ids::limits::{MAX_PACKET, QUEUE_ROOM};
+use schc_ids::{Cause, EndParams, Note, Report, Role, UnpackFault};
 use std::alloc::{AllocError, Global};
 use std::collections::VecDeque;
 use std::marker::Model;
 use std::mem;
 use std::sync::Arc;
-
-/// The most bytes of a packet that is handed down.
-const MAX_PACKET: usize = 1500;
-
-/// How many packets may wait in an end's queue.
-const QUEUE_ROOM: usize = 8;
 
 /// One end of the link: its role and parameters, the edition of rules that it knows, the one that it
 /// writes with, and the packets that wait to be sent, the first first.
@@ -64,7 +63,7 @@ impl Model for End {
       queue = e.queue.items;
     } };
 
-    ghost invariant = { λ e. IsEnd e.params.mtu e.queue.items };
+    ghost invariant = { λ e. IsEnd e.params e.queue.items };
 }
 
 impl End {
@@ -73,7 +72,7 @@ impl End {
     /// # Errors
     /// Want of memory.
     pub fn new(alloc: Global, role: Role, params: EndParams) -> Result<End, AllocError>
-        requires { IsMtu params.mtu }
+        requires { IsParams params }
         ensures { IfOk result (λ end. end ≡ new_end role params) }
     {
         let known = Arc::new(alloc, Edition::empty(alloc))?;
@@ -115,7 +114,7 @@ impl End {
         ensures done { IfOk result (λ answer. down_step self.old packet.now ≡ (self.new, Ok answer)) }
         ensures refused { IfErr result (λ fault. (fault ≡ DownFault.Memory) ⊎ (down_step self.old packet.now ≡ (self.old, Err fault))) }
         ensures unchanged { OnErr result (self.new ≡ self.old) }
-        ensures memory { IfErr result (λ fault. fault ≡ DownFault.Memory → (is_ipv6 packet.now ≡ true) × (length packet.now ≤ 1500)) }
+        ensures memory { IfErr result (λ fault. fault ≡ DownFault.Memory → (is_ipv6 packet.now ≡ true) × (length packet.now ≤ max_packet)) }
     {
         if !is_ipv6(packet) {
             return Err(DownFault::NotIpv6);
@@ -173,7 +172,7 @@ impl End {
         ensures unchanged { OnErr result (self.new ≡ self.old) }
         ensures port { IfOk result (λ answer. IfSome answer (λ emitted. emitted.frame.port < 256)) }
         ensures size { IfOk result (λ answer. IfSome answer (λ emitted. length emitted.frame.bytes ≤ self.old.params.mtu)) }
-        ensures within { IfOk result (λ answer. IfSome answer (λ emitted. length emitted.frame.bytes ≤ 242)) }
+        ensures within { IfOk result (λ answer. IfSome answer (λ emitted. length emitted.frame.bytes ≤ max_mtu)) }
     {
         let Some(form) = self.queue.front() else {
             return Ok(None);
@@ -183,24 +182,37 @@ impl End {
         Ok(Some(Emitted {
             frame,
             kind: EmitKind::Whole,
+            report: None,
         }))
     }
 
     /// Takes a frame: a whole SCHC packet is read with the edition that the end knows. The end stays
-    /// as it is.
+    /// as it is. By the ports of fragments and answers nothing comes yet.
     ///
     /// # Errors
-    /// Want of memory, which comes only for a whole SCHC packet.
-    #[tactic(auto, unfolding(crate::specs::End::take_step, crate::specs::End::taken, crate::specs::End::taken_whole))]
+    /// Want of memory, which comes only for a whole SCHC packet; nothing has changed then.
+    #[tactic(auto, unfolding(crate::specs::End::take_step, crate::specs::End::taken))]
     pub fn take(&mut self, frame: &Frame) -> Result<Taken, AllocError>
         ensures done { IfOk result (λ answer. take_step self.old frame.now ≡ (self.new, answer)) }
-        ensures unchanged { self.new ≡ self.old }
-        ensures note { IfOk result (λ answer. IsNote answer.note) }
-        ensures memory { OnErr result (is_whole frame.now.port ≡ true) }
+        ensures unchanged { OnErr result (self.new ≡ self.old) }
+        ensures outcome { IfOk result (λ answer. IsOutcomeOf (Take frame.now) (Took answer)) }
+        ensures memory { OnErr result (meaning_of self.old.role frame.now.port ≡ PortMeaning.Whole) }
     {
-        if !is_whole(frame.port) {
-            return Ok(refused(Cause::UnknownPort));
+        match meaning(self.role, frame.port) {
+            PortMeaning::Whole => self.take_whole(frame),
+            _ => Ok(refused(Cause::UnknownPort)),
         }
+    }
+
+    /// What the end answers to a frame that carries a whole SCHC packet.
+    ///
+    /// # Errors
+    /// Want of memory.
+    #[tactic(auto, unfolding(crate::specs::End::taken_whole))]
+    fn take_whole(&self, frame: &Frame) -> Result<Taken, AllocError>
+        ensures done { IfOk result (λ answer. answer ≡ taken_whole self.now.known.number (read self.now frame.now)) }
+        ensures outcome { IfOk result (λ answer. IsOutcomeOf (Take frame.now) (Took answer)) }
+    {
         let bits = carried(self.alloc, frame)?;
         let direction = self.role.other().sends();
         match unpack(self.alloc, &self.known, self.params.iids, direction, &bits) {
@@ -208,6 +220,32 @@ impl End {
             Err(UnpackFault::Memory) => Err(AllocError),
             Err(fault) => Ok(refused(Cause::Unpack(fault))),
         }
+    }
+
+    /// Lets one tick pass, and says how a session of this end ended by it. With no armed timer it
+    /// changes nothing; as long as there are no sessions, none is armed.
+    #[tactic(auto, unfolding(crate::specs::End::tick_step))]
+    pub fn tick(&mut self) -> Option<Report>
+        ensures { tick_step self.old ≡ (self.new, result) }
+    {
+        None
+    }
+
+    /// Gives up the session that the end sends, and says so: `None` exactly where there is none, as
+    /// always as long as there are no sessions.
+    #[tactic(auto, unfolding(crate::specs::End::abort_step))]
+    pub fn abort(&mut self) -> Option<Report>
+        ensures { abort_step self.old ≡ (self.new, result) }
+    {
+        None
+    }
+
+    /// Whether a timer of this end runs.
+    #[tactic(auto, unfolding(crate::specs::End::is_armed))]
+    pub fn armed(&self) -> bool
+        ensures { result ≡ is_armed self.now }
+    {
+        false
     }
 
     /// Offers an edition of rules to the end, which knows it from now on unless it is older than the
@@ -249,6 +287,7 @@ fn refused(cause: Cause) -> Taken
 {
     Taken {
         up: None,
+        report: None,
         note: Note::Refused(cause),
     }
 }
@@ -264,6 +303,7 @@ fn handed_up(number: u32, unpacked: Unpacked) -> Taken
             rule_id: unpacked.rule_id,
             packet: unpacked.packet,
         }),
+        report: None,
         note: Note::Small,
     }
 }

@@ -6,7 +6,7 @@ ghost use Rattle.end_core.specs.End.{frame_of, carried};
 
 use event_data::Frame;
 use packer::Packed;
-use schc_bits::{Bits, padded_bytes};
+use schc_bits::Bits;
 use std::alloc::{AllocError, Global};
 
 /// Bits of a RuleID (RFC 9011, section 5.1).
@@ -31,7 +31,7 @@ pub(crate) fn frame_of(alloc: Global, form: &Packed) -> Result<Frame, AllocError
     ensures frame { IfOk result (λ frame. frame ≡ frame_of form.now) }
     ensures size { IfOk result (λ frame. length frame.bytes ≡ frame_size form.now.bits) }
 {
-    let bytes = padded_bytes(alloc, &form.bits.as_slice()[ID_BITS..])?;
+    let bytes = form.bits.as_part().after(ID_BITS).to_padded_bytes(alloc)?;
     Ok(Frame {
         port: form.rule_id as u8,
         bytes,

@@ -3,7 +3,6 @@
 
 mod end;
 mod forms;
-mod ports;
 #[cfg(test)]
 mod tests;
 

@@ -1,8 +1,8 @@
 use crate::End;
 use editions::{Edition, FollowFault, follow};
-use event_data::{Accepted, Cause, DownFault, EmitKind, Frame, Note, Offered};
+use event_data::{Accepted, DownFault, EmitKind, Frame, Offered};
 use schc_bits::Octets;
-use schc_ids::{EndParams, FieldAt, FieldName, Iids, Role, UnpackFault};
+use schc_ids::{Cause, EndParams, FieldAt, FieldName, Iids, Note, Role, UnpackFault};
 use std::alloc::{AllocError, Global};
 use std::sync::Arc;
 use std::test::Fail;
@@ -13,13 +13,12 @@ const PACKET: [u8; 40] = [
     0x80, 0, 0, 0, 0, 0, 0, 0, 0, 0, 0, 0, 0, 0, 2,
 ];
 
-const PARAMS: EndParams = EndParams {
-    iids: Iids { dev: 1, app: 2 },
-    mtu: 242,
-};
-
 fn new_end(alloc: Global, role: Role) -> Result<End, AllocError> {
-    End::new(alloc, role, PARAMS)
+    End::new(
+        alloc,
+        role,
+        EndParams::with_defaults(Iids { dev: 1, app: 2 }),
+    )
 }
 
 /// The note of a new gateway's answer to a frame without bytes, which hands nothing up.

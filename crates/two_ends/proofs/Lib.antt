@@ -1,8 +1,11 @@
+pub mod PerLemmas
 pub mod LedLemmas
-pub mod AgreeLemmas
-pub mod ReadBackLemmas
-pub mod InvariantLemmas
-pub mod TakenLemmas
-pub mod EndStepLemmas
+pub mod GrownLemmas
+pub mod ChainKept
+pub mod EndsKept
+pub mod QueuesKept
+pub mod FramesKept
+pub mod UpsKept
 pub mod KeepsLemmas
+pub mod RestLemmas
 pub mod CleanLemmas

@@ -1,9 +1,8 @@
 -- A run in which nothing is lost: a packet that is handed down arrives, once.
-use Rattle.std.specs.Prelude.{◌≡◌, ℕ, ◌≤◌, List, [], ◌∷◌, ◌++◌, length, Some, None, Result, Ok, slice_get}
+use Rattle.std.specs.Prelude.{◌≡◌, ℕ, zero, suc, ◌≤◌, List, [], ◌∷◌, ◌++◌, length, Some, None, Result, Ok, slice_get}
 use Rattle.schc_ids.specs.Ends.{sent_direction, other_role}
 use Rattle.schc_ids.specs.declared.ends.EndParams.{EndParams}
 use Rattle.schc_ids.specs.declared.ends.Role.{Role}
-use Rattle.schc_ids.specs.declared.ends.Role.TheVariants.{Device, Gateway}
 use Rattle.schc_ids.specs.declared.ends.Direction.{Direction}
 use Rattle.editions.specs.Data.{EditionData}
 use Rattle.packer.specs.Laws.{RestoresUnder}
@@ -14,16 +13,23 @@ use Rattle.event_data.specs.declared.outcomes.Line.TheVariants as line
 use Rattle.event_data.specs.declared.outcomes.StepFault.{StepFault}
 use Rattle.two_ends.specs.World.{WorldData, end_of, step}
 use Rattle.two_ends.specs.Fits.{Fits, FitsEvent}
-use Rattle.two_ends.specs.History.{HandedUp, History, start, next, run}
+use Rattle.two_ends.specs.Labels.{Whole}
+use Rattle.two_ends.specs.Logs.{HandedUp}
+use Rattle.two_ends.specs.History.{History, start, next, run}
 
 -- an outcome of an event
 abbrev pub outcome : WorldData → Event → Result Line StepFault
 outcome w event = (step w event).1
 
 -- neither end has a frame due: a slot would give none
-pub record HasNothingDue (w : WorldData) : Type 0 where
-  pub device : outcome w (Slot Device) ≡ Ok (line.Slot None)
-  pub gateway : outcome w (Slot Gateway) ≡ Ok (line.Slot None)
+abbrev pub HasNothingDue : WorldData → Type 0
+HasNothingDue w = (role : Role) → outcome w (Slot role) ≡ Ok (line.Slot None)
+
+-- A clean start for this end: neither end has a frame due, and nothing waits at this end. No session of it is open or quiet,
+-- and the receiver of its key is empty: of these nothing is asked as long as there are no sessions.
+pub record IsClean (w : WorldData) (role : Role) : Type 0 where
+  pub nothing_due : HasNothingDue w
+  pub nothing_waits : (end_of w role).queue ≡ []
 
 -- the frame that a slot gave in this direction is delivered; where it gave none, nothing happens
 unfoldable pub delivered : History → Direction → Result Line StepFault → History
@@ -38,9 +44,10 @@ slot_delivered h role = delivered (next h (Slot role)) (sent_direction role) (ou
 unfoldable pub plain_round : History → Role → History
 plain_round h role = slot_delivered (slot_delivered h role) (other_role role)
 
--- the packet is handed down, and a plain round follows
-abbrev pub round_after : History → Role → List ℕ → History
-round_after h role packet = plain_round (next h (Down role packet)) role
+-- so many plain rounds, one after the other
+unfoldable pub plain_rounds : ℕ → History → Role → History
+plain_rounds zero h role = h
+plain_rounds (suc count) h role = plain_rounds count (plain_round h role) role
 
 -- the other end knows the edition with which the packet was written, or a later one
 abbrev pub ReaderKnows : WorldData → Role → Accepted → Type 0
@@ -56,7 +63,7 @@ pub record BringsUp (before after : List HandedUp) (chain : List EditionData) (d
   pub writer : EditionData
   pub written_with : slice_get chain accepted.edition ≡ Some writer
   pub same_packet : RestoresUnder writer direction accepted.rule_id packet entry.packet
-  pub leads_here : entry.label ≡ Some index
+  pub leads_here : entry.label ≡ Some (Whole index)
 
 -- a packet that was handed down at an end was carried, from the history before to the one after: it was handed up
 -- once, and then neither end has a frame due
@@ -64,13 +71,18 @@ pub record IsCarried (before after : History) (role : Role) (packet : List ℕ) 
   pub arrives : BringsUp before.logs.ups after.logs.ups before.world.chain (sent_direction role) packet accepted (length before.logs.downs)
   pub at_rest : HasNothingDue after.world
 
--- a packet that is handed down where neither end has a frame due, and taken, is carried by one plain round, where the
--- other end knows the edition with which it was written, or a later one
+-- the plain rounds that a packet needs: each goes whole, in one frame
+abbrev pub needed_rounds : ℕ
+needed_rounds = 1
+
+-- a packet that is handed down at a clean start, and taken, is carried by that many plain rounds or more, where the other
+-- end knows the edition with which it was written, or a later one
 abbrev pub Arrives : History → Role → List ℕ → Type 0
 Arrives h role packet =
-    (accepted : Accepted) → HasNothingDue h.world →
+    (accepted : Accepted) → IsClean h.world role →
     outcome h.world (Down role packet) ≡ Ok (line.Hand accepted) → ReaderKnows h.world role accepted →
-    IsCarried h (round_after h role packet) role packet accepted
+    (rounds : ℕ) → needed_rounds ≤ rounds →
+    IsCarried h (plain_rounds rounds (next h (Down role packet)) role) role packet accepted
 
 -- so it is in every world that events lead to
 abbrev pub Clean : Type 0

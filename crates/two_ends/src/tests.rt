@@ -1,7 +1,7 @@
 use crate::{Line, StepFault, World, WorldEvent};
-use event_data::{Accepted, DownFault, EmitKind, Note, Offered};
+use event_data::{Accepted, DownFault, EmitKind, Offered};
 use schc_bits::Octets;
-use schc_ids::{Direction, EndParams, Iids, Role};
+use schc_ids::{Direction, EndParams, Iids, Note, Role};
 use std::alloc::{AllocError, Global};
 use std::test::Fail;
 
@@ -11,13 +11,8 @@ const PACKET: [u8; 40] = [
     0x80, 0, 0, 0, 0, 0, 0, 0, 0, 0, 0, 0, 0, 0, 2,
 ];
 
-const PARAMS: EndParams = EndParams {
-    iids: Iids { dev: 1, app: 2 },
-    mtu: 242,
-};
-
 fn new_world(alloc: Global) -> Result<World, AllocError> {
-    World::new(alloc, PARAMS)
+    World::new(alloc, EndParams::with_defaults(Iids { dev: 1, app: 2 }))
 }
 
 /// What the device answers to a packet that is handed down, or why it refuses it.

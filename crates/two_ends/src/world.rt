@@ -1,24 +1,22 @@
 ghost use Rattle.std.specs.Prelude.{◌≡◌, IfOk, IfErr, OnErr, ◌⊎◌};
 ghost use Rattle.std.specs.Option.{option_copied};
-ghost use Rattle.event_data.specs.Events.{view_event, Down, Slot, Deliver, Publish, Offer, Allow};
+ghost use Rattle.event_data.specs.Events.{view_event, Down, Slot, Deliver, Tick, Abort, Publish, Offer, Allow};
 ghost use Rattle.event_data.specs.Records.{FrameData};
-ghost use Rattle.event_data.specs.Outcomes.{IsNote, IsOutcome};
+ghost use Rattle.event_data.specs.Outcomes.{IsNote, IsLineOf};
 ghost use Rattle.end_core.specs.End.{slot_step, take_step};
-ghost use Rattle.two_ends.specs.Fits.{IsMtu};
+ghost use Rattle.schc_ids.specs.Params.{IsParams};
 ghost use Rattle.two_ends.specs.World.{beginning, numbered, step, sent_after};
 
 use crate::chain::Chain;
 use end_core::End;
-use event_data::{DownFault, Emission, Frame, Line, StepFault, Taken, WorldEvent};
+use event_data::{DownFault, Emission, Frame, Line, StepFault, Taken, Target, WorldEvent};
 use publishing::{PublishFault, publish};
 use rule_model::RawEdition;
 use schc_bits::{ItemList, Octets};
+use schc_ids::limits::MAX_MTU;
 use schc_ids::{Direction, EndParams, Role};
 use std::alloc::{AllocError, Global};
 use std::marker::Model;
-
-/// The most bytes that a frame of an end has.
-const MAX_FRAME: usize = 242;
 
 /// Both ends of one link, the editions of rules that were published, and every frame that was ever
 /// sent.
@@ -39,7 +37,11 @@ impl Model for World {
 
     ghost Value = { WorldData };
 
-    ghost view = { λ w. record { device = w.device; gateway = w.gateway; chain = w.chain; up = w.up.items; down = w.down.items } };
+    ghost view = { λ w. record {
+      ends = record { device = w.device; gateway = w.gateway };
+      chain = w.chain;
+      frames = record { up = w.up.items; down = w.down.items };
+    } };
 }
 
 impl World {
@@ -48,7 +50,7 @@ impl World {
     /// # Errors
     /// Want of memory.
     pub fn new(alloc: Global, params: EndParams) -> Result<World, AllocError>
-        requires { IsMtu params.mtu }
+        requires { IsParams params }
         ensures { IfOk result (λ world. world ≡ beginning params) }
     {
         Ok(World {
@@ -71,12 +73,14 @@ impl World {
         ensures done { IfOk result (λ line. step self.old (view_event event.now) ≡ (self.new, Ok line)) }
         ensures refused { IfErr result (λ fault. (fault ≡ StepFault.Memory) ⊎ (step self.old (view_event event.now) ≡ (self.old, Err fault))) }
         ensures unchanged { OnErr result (self.new ≡ self.old) }
-        ensures outcome { IfOk result (λ line. IsOutcome line) }
+        ensures outcome { IfOk result (λ line. IsLineOf (view_event event.now) line) }
     {
         match event {
             WorldEvent::Down(role, packet) => self.down(*role, packet.as_slice()),
             WorldEvent::Slot(role) => self.slot(*role),
             WorldEvent::Deliver(direction, number) => self.deliver(*direction, *number),
+            WorldEvent::Tick(target) => Ok(self.tick(*target)),
+            WorldEvent::Abort(role) => Ok(self.abort(*role)),
             WorldEvent::Publish(edition) => self.publish(edition),
             WorldEvent::Offer(role, number) => self.offer(*role, *number),
             WorldEvent::Allow(role, number) => Ok(self.allow(*role, *number)),
@@ -87,12 +91,12 @@ impl World {
     ///
     /// # Errors
     /// Want of memory; nothing has changed then.
-    #[tactic(auto, unfolding(crate::specs::World::step, crate::specs::World::down_step))]
+    #[tactic(auto, unfolding(crate::specs::World::step, crate::specs::World::end_event, crate::specs::World::answered, end_core::specs::EndStep::end_step))]
     fn down(&mut self, role: Role, packet: &[u8]) -> Result<Line, StepFault>
         ensures done { IfOk result (λ line. step self.old (Down role packet.now) ≡ (self.new, Ok line)) }
         ensures refused { IfErr result (λ fault. fault ≡ StepFault.Memory) }
         ensures unchanged { OnErr result (self.new ≡ self.old) }
-        ensures outcome { IfOk result (λ line. IsOutcome line) }
+        ensures outcome { IfOk result (λ line. IsLineOf (Down role packet.now) line) }
     {
         let answer = match role {
             Role::Device => self.device.down(packet),
@@ -109,12 +113,12 @@ impl World {
     ///
     /// # Errors
     /// Want of memory; nothing has changed then.
-    #[tactic(auto, unfolding(crate::specs::World::step, crate::specs::World::slot_step))]
+    #[tactic(auto, unfolding(crate::specs::World::step, crate::specs::World::end_event, crate::specs::World::answered, end_core::specs::EndStep::end_step))]
     fn slot(&mut self, role: Role) -> Result<Line, StepFault>
         ensures done { IfOk result (λ line. step self.old (Slot role) ≡ (self.new, Ok line)) }
         ensures refused { IfErr result (λ fault. fault ≡ StepFault.Memory) }
         ensures unchanged { OnErr result (self.new ≡ self.old) }
-        ensures outcome { IfOk result (λ line. IsOutcome line) }
+        ensures outcome { IfOk result (λ line. IsLineOf (Slot role) line) }
     {
         let emitted = match role {
             Role::Device => emit(self.alloc, &mut self.device, &mut self.up),
@@ -131,18 +135,47 @@ impl World {
     /// # Errors
     /// `NoSuchFrame` exactly where there is none with this number, and want of memory. Nothing has
     /// changed then.
-    #[tactic(auto, unfolding(crate::specs::World::step, crate::specs::World::deliver_step))]
+    #[tactic(auto, unfolding(crate::specs::World::step, crate::specs::World::end_event, crate::specs::World::answered, end_core::specs::EndStep::end_step, crate::specs::World::deliver_step))]
     fn deliver(&mut self, direction: Direction, number: u64) -> Result<Line, StepFault>
         ensures done { IfOk result (λ line. step self.old (Deliver direction number) ≡ (self.new, Ok line)) }
         ensures refused { IfErr result (λ fault. (fault ≡ StepFault.Memory) ⊎ (step self.old (Deliver direction number) ≡ (self.old, Err fault))) }
         ensures unchanged { OnErr result (self.new ≡ self.old) }
-        ensures outcome { IfOk result (λ line. IsOutcome line) }
+        ensures outcome { IfOk result (λ line. IsLineOf (Deliver direction number) line) }
     {
         let taken = match direction {
             Direction::Up => arrive(&mut self.gateway, &self.up, number)?,
             Direction::Down => arrive(&mut self.device, &self.down, number)?,
         };
         Ok(Line::Deliver(taken))
+    }
+
+    /// Lets a tick pass at one end, or at both: at the device first.
+    #[tactic(auto, unfolding(crate::specs::World::step, crate::specs::World::end_event, crate::specs::World::answered, end_core::specs::EndStep::end_step, crate::specs::World::tick_step))]
+    fn tick(&mut self, target: Target) -> Line
+        ensures done { step self.old (Tick target) ≡ (self.new, Ok result) }
+        ensures outcome { IsLineOf (Tick target) result }
+    {
+        match target {
+            Target::Device => Line::Tick(self.device.tick(), None),
+            Target::Gateway => Line::Tick(None, self.gateway.tick()),
+            Target::Both => {
+                let report = self.device.tick();
+                Line::Tick(report, self.gateway.tick())
+            }
+        }
+    }
+
+    /// Lets an end give up the session that it sends.
+    #[tactic(auto, unfolding(crate::specs::World::step, crate::specs::World::end_event, crate::specs::World::answered, end_core::specs::EndStep::end_step))]
+    fn abort(&mut self, role: Role) -> Line
+        ensures done { step self.old (Abort role) ≡ (self.new, Ok result) }
+        ensures outcome { IsLineOf (Abort role) result }
+    {
+        let report = match role {
+            Role::Device => self.device.abort(),
+            Role::Gateway => self.gateway.abort(),
+        };
+        Line::Abort(report)
     }
 
     /// Publishes an edition of rules, which is the last one of the chain then, unless there is a
@@ -155,7 +188,7 @@ impl World {
         ensures done { IfOk result (λ line. step self.old (Publish raw.now) ≡ (self.new, Ok line)) }
         ensures refused { IfErr result (λ fault. fault ≡ StepFault.Memory) }
         ensures unchanged { OnErr result (self.new ≡ self.old) }
-        ensures outcome { IfOk result (λ line. IsOutcome line) }
+        ensures outcome { IfOk result (λ line. IsLineOf (Publish raw.now) line) }
     {
         let edition = match publish(self.alloc, self.chain.last(), raw) {
             Ok(edition) => edition,
@@ -174,12 +207,12 @@ impl World {
     /// # Errors
     /// `NoSuchEdition` exactly where none with this number was published, and want of memory. Nothing
     /// has changed then.
-    #[tactic(auto, unfolding(crate::specs::World::step, crate::specs::World::offer_step))]
+    #[tactic(auto, unfolding(crate::specs::World::step, crate::specs::World::end_event, crate::specs::World::answered, end_core::specs::EndStep::end_step, crate::specs::World::offer_step))]
     fn offer(&mut self, role: Role, number: u32) -> Result<Line, StepFault>
         ensures done { IfOk result (λ line. step self.old (Offer role number) ≡ (self.new, Ok line)) }
         ensures refused { IfErr result (λ fault. (fault ≡ StepFault.Memory) ⊎ (step self.old (Offer role number) ≡ (self.old, Err fault))) }
         ensures unchanged { OnErr result (self.new ≡ self.old) }
-        ensures outcome { IfOk result (λ line. IsOutcome line) }
+        ensures outcome { IfOk result (λ line. IsLineOf (Offer role number) line) }
     {
         let Some(edition) = self.chain.at(number) else {
             return Err(StepFault::NoSuchEdition(number));
@@ -196,10 +229,10 @@ impl World {
     }
 
     /// Allows an end to write with the edition with this number.
-    #[tactic(auto, unfolding(crate::specs::World::step, crate::specs::World::allow_step))]
+    #[tactic(auto, unfolding(crate::specs::World::step, crate::specs::World::end_event, crate::specs::World::answered, end_core::specs::EndStep::end_step))]
     fn allow(&mut self, role: Role, number: u32) -> Line
         ensures done { step self.old (Allow role number) ≡ (self.new, Ok result) }
-        ensures outcome { IsOutcome result }
+        ensures outcome { IsLineOf (Allow role number) result }
     {
         let allowed = match role {
             Role::Device => self.device.allow(number),
@@ -225,7 +258,7 @@ fn emit(
 {
     frames.reserve(1)?;
     let mut bytes = Octets::new(alloc);
-    bytes.reserve(MAX_FRAME)?;
+    bytes.reserve(usize::from(MAX_MTU))?;
     let Some(emitted) = end.slot()? else {
         return Ok(None);
     };

@@ -5,6 +5,7 @@ use Rattle.std.proofs.lemmas.Bool.{lt-ltb, ltb-true, ltb-false}
 use Rattle.schc_bits.specs.Bits.{number_bits, bits_value, octets, AreBytes}
 use Rattle.schc_bits.proofs.NumberBits.{bits_value-number_bits}
 use Rattle.schc_ids.specs.declared.ends.Direction.{Direction}
+use Rattle.schc_ids.specs.declared.ends.Role.{Role}
 use Rattle.schc_ids.specs.declared.ends.Iids.{Iids}
 use Rattle.rule_model.specs.declared.finding.Row.TheVariants as row
 use Rattle.rule_model.specs.Data.{RuleData}
@@ -16,12 +17,15 @@ use Rattle.packer.specs.Schc.{IsChosen}
 use Rattle.packer.specs.Packing.{packed}
 use Rattle.packer.specs.Unpacking.{unpacked}
 use Rattle.packer.specs.Laws.{IsSound, AgreeOn, IsReadAs}
-use Rattle.end_core.specs.End.{frame_of, carried, is_whole}
+use Rattle.lorawan_profile.specs.Ports.{meaning_of, is_whole}
+use Rattle.lorawan_profile.specs.declared.ports.PortMeaning.TheVariants.{Whole}
+use Rattle.lorawan_profile.proofs.PortsLemmas.{meaning_of-whole}
+use Rattle.end_core.specs.End.{frame_of, carried}
 use Rattle.end_core.proofs.FrameLemmas.{frame_padding, length-frame_padding, carried-frame_of}
 use Rattle.end_core.proofs.PackedLemmas.{packed-begins}
 use Rattle.packer.proofs.ChosenLemmas.{packed-chosen}
 use Rattle.packer.proofs.WrittenLemmas.{reads_what_was_written}
-use Rattle.two_ends.proofs.AgreeLemmas.{IsKnown, chosen-known, read-known}
+use Rattle.end_core.proofs.AgreeLemmas.{IsKnown, chosen-known, read-known}
 
 -- the first 8 bits behind a RuleID in front
 id-bits : (id : ℕ) (rest : List Bool) → take 8 (number_bits 8 id ++ rest) ≡ number_bits 8 id
@@ -40,7 +44,7 @@ none-false false o e = refl
 below-cases : (id : ℕ) → nat_lt 223 id ≡ false → nat_lt id 224 ≡ true
 below-cases id e = lt-ltb id 224 (omega (arith, ltb-false 223 id e))
 
-whole-parts : (a b c d e f : Bool) → a ≡ false → b ≡ false → c ≡ false → d ≡ false → e ≡ false → f ≡ true → (not a && not b && not c && not d && not e && f) ≡ true
+whole-parts : (a b c d e f : Bool) → a ≡ false → b ≡ false → c ≡ false → d ≡ false → e ≡ false → f ≡ true → ((not a && f) && not b && not c && not d && not e) ≡ true
 whole-parts a b c d e f ea eb ec ed ee ef = rw (ea, eb, ec, ed, ee, ef) refl
 
 -- an admitted rule's RuleID is a port by which whole SCHC packets come
@@ -63,18 +67,24 @@ chosen-whole edition iids way packet id bits sound (IsChosen.by_rule listed form
     admitted-whole listed.rule (All-contains (λ other. IsAdmitted other.rule) edition.rules listed sound.admitted candidate.listing)
 chosen-whole edition iids way packet id bits sound (IsChosen.by_none none) = refl
 
-and-last : (a b : Bool) → (a && b) ≡ true → b ≡ true
-and-last true b e = e
-and-last false b e = absurd cc
-
-whole-below : (id : ℕ) → is_whole id ≡ true → id < 256
-unfolding is_whole
-whole-below id e = omega (arith, ltb-true id 224 (and-last _ (nat_lt id 224) e))
-
--- a written packet's RuleID is such a port
-pub packed-whole : (edition : EditionData) (iids : Iids) (way : Direction) (packet : List ℕ) → IsSound edition → AreBytes packet → is_whole (packed edition iids way packet).rule_id ≡ true
-packed-whole edition iids way packet sound bytes =
+packed-is_whole : (edition : EditionData) (iids : Iids) (way : Direction) (packet : List ℕ) → IsSound edition → AreBytes packet → is_whole (packed edition iids way packet).rule_id ≡ true
+packed-is_whole edition iids way packet sound bytes =
     chosen-whole edition iids way packet (packed edition iids way packet).rule_id (packed edition iids way packet).bits sound (packed-chosen edition iids way packet sound bytes)
+
+whole-below : (id : ℕ) (a b c d e f : Bool) → f ≡ nat_lt id 224 → ((a && f) && b && c && d && e) ≡ true → id < 256
+whole-below id true b c d e true f h = omega (arith, ltb-true id 224 (sym f))
+whole-below id true b c d e false f h = absurd cc
+whole-below id false b c d e g f h = absurd cc
+
+packed-below : (edition : EditionData) (iids : Iids) (way : Direction) (packet : List ℕ) → IsSound edition → AreBytes packet → (packed edition iids way packet).rule_id < 256
+unfolding is_whole
+packed-below edition iids way packet sound bytes =
+    whole-below (packed edition iids way packet).rule_id _ _ _ _ _ (nat_lt (packed edition iids way packet).rule_id 224) refl (packed-is_whole edition iids way packet sound bytes)
+
+-- by the port that is a written packet's RuleID comes a whole packet, at either end
+pub packed-whole : (role : Role) (edition : EditionData) (iids : Iids) (way : Direction) (packet : List ℕ) → IsSound edition → AreBytes packet → meaning_of role (packed edition iids way packet).rule_id ≡ Whole
+packed-whole role edition iids way packet sound bytes =
+    (meaning_of-whole role (packed edition iids way packet).rule_id).1 (packed-is_whole edition iids way packet sound bytes)
 
 -- the edition that wrote it knows its RuleID
 pub packed-known : (edition : EditionData) (iids : Iids) (way : Direction) (packet : List ℕ) → IsSound edition → AreBytes packet → IsKnown edition (packed edition iids way packet).rule_id
@@ -93,5 +103,5 @@ pub reader-knows : (writer reader : EditionData) (iids : Iids) (way : Direction)
 reader-knows writer reader iids way packet read sound bytes given =
     let p = packed writer iids way packet in
     subst (IsKnown reader)
-    (ap bits_value (id-bits p.rule_id (octets (frame_of p).bytes)) ∙ bits_value-number_bits 8 p.rule_id (whole-below p.rule_id (packed-whole writer iids way packet sound bytes)))
+    (ap bits_value (id-bits p.rule_id (octets (frame_of p).bytes)) ∙ bits_value-number_bits 8 p.rule_id (packed-below writer iids way packet sound bytes))
     (read-known reader iids way (carried (frame_of p)) read given)
