@@ -1,3 +1,2 @@
-pub mod TextLemmas
-pub mod BytesLemmas
-pub mod AnswersLemmas
+pub mod FaultLemmas
+pub mod RunLemmas

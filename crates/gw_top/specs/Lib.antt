@@ -1,8 +1,4 @@
-pub mod Text
-pub mod ScriptData
-pub mod Script
-pub mod Lines
-pub mod Work
 pub mod Words
+pub mod Run
 pub mod Output
 pub mod Answers

@@ -1,17 +1,14 @@
 //! The commands without threads.
 
-ghost use Rattle.std.specs.Prelude.{ℕ, ◌≡◌, ◌↔◌, ◌≤◌, Err, map, string_bytes};
-ghost use Rattle.gw_top.specs.Words.{command_of};
-ghost use Rattle.gw_top.specs.Answers.{Call, Answers, Headline, IsComplete};
+ghost use Rattle.std.specs.Prelude.{◌≤◌};
+ghost use Rattle.gw_top.specs.Answers.{call, Answers, IsComplete, IsUsage};
 
 use crate::output::output_for;
 use crate::status::{Counted, Status};
 use crate::words::command_in;
 use outside::{ReadAllFault, Sink, Source, read_all, write_all};
+use schc_ids::limits::MAX_INPUT;
 use std::alloc::Global;
-
-/// The most bytes of an input.
-const INPUT_LIMIT: usize = 67_108_864;
 
 /// Runs the command that the words name: `check` reads a context, and writes a line for each of its editions; `pack`
 /// and `unpack` read a work file, and write a line for each of its packets; `sim` reads a script, and writes a line for
@@ -22,26 +19,22 @@ pub fn run<S: Source, K: Sink>(
     input: &mut S,
     output: &mut K,
 ) -> Status
-    ensures answers { Answers result (record { words = map string_bytes words.now; left = S.left input.old; left_after = S.left input.new; read_faults = S.faults input.old; read_faults_after = S.faults input.new; written = K.written output.old; written_after = K.written output.new; write_faults = K.faults output.old; write_faults_after = K.faults output.new }) }
-
-    // With `Ok`, in the world of the device, after each event of the script that was read, each packet that was handed
-    // up is one that was handed down earlier at the other end.
-    ensures headline { Headline result (record { words = map string_bytes words.now; left = S.left input.old; left_after = S.left input.new; read_faults = S.faults input.old; read_faults_after = S.faults input.new; written = K.written output.old; written_after = K.written output.new; write_faults = K.faults output.old; write_faults_after = K.faults output.new }) }
+    ensures answers { Answers result (call words.now (S.state input.old) (S.state input.new) (K.state output.old) (K.state output.new)) }
 
     // For a source that tells its text, the status is determined, want of memory and faults aside.
-    ensures complete { IsComplete result (record { words = map string_bytes words.now; left = S.left input.old; left_after = S.left input.new; read_faults = S.faults input.old; read_faults_after = S.faults input.new; written = K.written output.old; written_after = K.written output.new; write_faults = K.faults output.old; write_faults_after = K.faults output.new }) }
-    ensures usage { (place : ℕ) → (result ≡ Status.Usage place) ↔ (command_of (map string_bytes words.now) ≡ Err place) }
-    ensures reads { S.faults input.old ≤ S.faults input.new }
-    ensures writes { K.faults output.old ≤ K.faults output.new }
+    ensures complete { IsComplete result (call words.now (S.state input.old) (S.state input.new) (K.state output.old) (K.state output.new)) }
+    ensures usage { IsUsage result words.now }
+    ensures reads { (S.state input.old).faults ≤ (S.state input.new).faults }
+    ensures writes { (K.state output.old).faults ≤ (K.state output.new).faults }
 {
     let command = match command_in(words) {
         Ok(command) => command,
         Err(place) => return Status::Usage(place),
     };
-    let text = match read_all(alloc, input, INPUT_LIMIT) {
+    let text = match read_all(alloc, input, MAX_INPUT) {
         Ok(text) => text,
         Err(ReadAllFault::Fault) => return Status::ReadFault,
-        Err(ReadAllFault::TooLong) => return Status::Limit(Counted::Bytes, INPUT_LIMIT as u64 + 1),
+        Err(ReadAllFault::TooLong) => return Status::Limit(Counted::Bytes, MAX_INPUT as u64 + 1),
         Err(ReadAllFault::Memory) => return Status::Memory,
     };
     let made = match output_for(alloc, command, text.as_slice()) {

@@ -1,51 +1,40 @@
 //! What a command makes of its input.
 
-ghost use Rattle.std.specs.Prelude.{◌≡◌, IfOk};
-ghost use Rattle.std.specs.Option.{option_map};
-ghost use Rattle.rule_json.specs.Texts.{context_of, work_of};
-ghost use Rattle.gw_top.specs.Output.{output_of};
+ghost use Rattle.std.specs.Prelude.{◌≡◌, ◌≢◌, Err, IfOk, IfSome, OnOk, OnErr};
+ghost use Rattle.std.specs.Result.{result_ok};
+ghost use Rattle.gw_top.specs.Output.{output_of, IsSafeFor};
 
-use crate::script::parse;
 use crate::sim::simulate;
 use crate::words::Command;
-use crate::work::{checked, packed_work, unpacked_work};
-use rule_json::{ContextFile, JsonFault, WorkFile, read_context, read_work};
-use rule_model::Finding;
+use rule_commands::{Output, check, pack, unpack};
+use rule_json::JsonFault;
+use script_lang::{ScriptFault, parse};
 use std::alloc::{AllocError, Global};
-use std::marker::Model;
 
-/// What a command makes of its input: what it prints, and the finding that ends it, if one does.
-#[derive(Drop)]
-pub(crate) struct Output {
-    pub text: Vec<u8>,
-    pub refused: Option<Finding>,
-}
-
-impl Model for Output {
-    ghost use Rattle.gw_top.specs.Work.{OutputData};
-
-    ghost Value = { OutputData };
-
-    ghost view = { λ o. record { text = o.text.items; refused = o.refused } };
-}
-
-/// The context that a text is, if it is one.
-fn context(alloc: Global, text: &[u8]) -> Result<Option<ContextFile>, AllocError>
-    ensures { IfOk result (λ context. context ≡ context_of text.now) }
+/// What `sim` prints for a script, or `None` where the text is none.
+#[tactic(auto, unfolding(crate::specs::Output::output_of))]
+fn sim_output(alloc: Global, text: &[u8]) -> Result<Option<Output>, AllocError>
+    ensures output { IfOk result (λ output. output ≡ output_of Command.Sim text.now) }
+    ensures safe { IfOk result (λ output. IfSome output (λ _. IsSafeFor Command.Sim text.now)) }
 {
-    match read_context(alloc, text) {
-        Ok(context) => Ok(Some(context)),
-        Err(JsonFault::Memory) => Err(AllocError),
-        Err(_) => Ok(None),
+    match parse(alloc, text) {
+        Ok(script) => Ok(Some(Output {
+            text: simulate(alloc, &script)?,
+            refused: None,
+        })),
+        Err(ScriptFault::BadLine(_)) => Ok(None),
+        Err(ScriptFault::Memory) => Err(AllocError),
     }
 }
 
-/// The work that a text is, if it is one.
-fn work(alloc: Global, text: &[u8]) -> Result<Option<WorkFile>, AllocError>
-    ensures { IfOk result (λ work. work ≡ work_of text.now) }
+/// The output, or `None` where the input couldn't be read.
+fn where_read(made: Result<Output, JsonFault>) -> Result<Option<Output>, AllocError>
+    ensures done { IfOk result (λ output. output ≡ result_ok made) }
+    ensures memory { OnErr result (made ≡ Err JsonFault.Memory) }
+    ensures other { OnOk result (made ≢ Err JsonFault.Memory) }
 {
-    match read_work(alloc, text) {
-        Ok(work) => Ok(Some(work)),
+    match made {
+        Ok(output) => Ok(Some(output)),
         Err(JsonFault::Memory) => Err(AllocError),
         Err(_) => Ok(None),
     }
@@ -61,27 +50,13 @@ pub(crate) fn output_for(
     command: Command,
     text: &[u8],
 ) -> Result<Option<Output>, AllocError>
-    ensures { IfOk result (λ output. output ≡ output_of command text.now) }
+    ensures output { IfOk result (λ output. output ≡ output_of command text.now) }
+    ensures safe { IfOk result (λ output. IfSome output (λ _. IsSafeFor command text.now)) }
 {
     match command {
-        Command::Check => match context(alloc, text)? {
-            Some(context) => Ok(Some(checked(alloc, &context)?)),
-            None => Ok(None),
-        },
-        Command::Pack => match work(alloc, text)? {
-            Some(work) => Ok(Some(packed_work(alloc, &work)?)),
-            None => Ok(None),
-        },
-        Command::Unpack => match work(alloc, text)? {
-            Some(work) => Ok(Some(unpacked_work(alloc, &work)?)),
-            None => Ok(None),
-        },
-        Command::Sim => match parse(alloc, text)? {
-            Some(script) => Ok(Some(Output {
-                text: simulate(alloc, &script)?,
-                refused: None,
-            })),
-            None => Ok(None),
-        },
+        Command::Check => where_read(check(alloc, text)),
+        Command::Pack => where_read(pack(alloc, text)),
+        Command::Unpack => where_read(unpack(alloc, text)),
+        Command::Sim => sim_output(alloc, text),
     }
 }

@@ -1,15 +1,18 @@
 //! The run of a script, as it is printed.
 
-ghost use Rattle.std.specs.Prelude.{◌≡◌, IfOk, OnOk, string_bytes};
-ghost use Rattle.gw_top.specs.Lines.{line_of, line_text, lines_from, printed};
+ghost use Rattle.std.specs.Prelude.{◌≡◌, IfOk, OnOk};
+ghost use Rattle.schc_ids.specs.Params.{IsParams};
+ghost use Rattle.event_data.specs.Outcomes.{IsLineOf};
 ghost use Rattle.two_ends.specs.World.{step, beginning};
-ghost use Rattle.two_ends.specs.Fits.{IsMtu};
+ghost use Rattle.script_lang.specs.Ranges.{HaveParams};
+ghost use Rattle.gw_top.specs.Run.{line_of, params_of, outcomes_from, run_of, lines_from, printed};
 
-use crate::lines::line_text;
-use crate::script::{Script, ScriptEvent};
 use event_data::{Line, StepFault};
-use schc_ids::EndParams;
+use rule_model::DeviceLine;
+use schc_ids::{EndParams, Iids};
+use script_lang::{Script, ScriptEvent};
 use std::alloc::{AllocError, Global};
+use transcripts::line_text;
 use two_ends::World;
 
 /// What is printed for a script: a line for each event of its run.
@@ -17,29 +20,45 @@ use two_ends::World;
 /// # Errors
 /// Want of memory.
 pub(crate) fn simulate(alloc: Global, script: &Script) -> Result<Vec<u8>, AllocError>
-    ensures { IfOk result (λ text. text.items ≡ printed script.now) }
+    ensures { IfOk result (λ text. text.items ≡ printed script.now (run_of script.now)) }
 {
-    lines(alloc, script.params(), script.events.as_slice())
+    lines(alloc, params(script.devices()), script.events())
+}
+
+/// The parameters of the device that is declared. Where none is, only publications happen, whose
+/// outcomes don't depend on a device.
+fn params(devices: &[DeviceLine]) -> EndParams
+    requires { HaveParams devices.now }
+    ensures params { result ≡ params_of devices.now }
+    ensures in_range { IsParams result }
+{
+    match devices {
+        [device, ..] => device.params,
+        [] => EndParams::with_defaults(Iids { dev: 0, app: 0 }),
+    }
 }
 
 /// The lines of a run of these events from the beginning.
 fn lines(alloc: Global, params: EndParams, events: &[ScriptEvent]) -> Result<Vec<u8>, AllocError>
-    requires { IsMtu params.mtu }
-    ensures { IfOk result (λ text. text.items ≡ lines_from 1 (beginning params) events.now) }
+    requires { IsParams params }
+    ensures { IfOk result (λ text. text.items ≡ lines_from 1 events.now (outcomes_from (beginning params) events.now)) }
 {
     let mut world = World::new(alloc, params)?;
     let mut text = Vec::new(alloc);
     for (index, event) in events.iter().enumerate() {
-        let line = line(alloc, index as u64 + 1, &mut world, event)?;
-        text.extend_from_slice(line.as_bytes())?;
+        let said = outcome(&mut world, event)?;
+        let line = line_text(alloc, event.device, &event.event, &said, index as u64 + 1)?;
+        text.extend_from_slice(line.as_slice())?;
     }
     Ok(text)
 }
 
 /// The event's outcome as a line: two faults have one, a frame that was never sent and an edition that
 /// the chain lacks.
+#[tactic(auto, using(crate::proofs::FaultLemmas::frame_missing, crate::proofs::FaultLemmas::edition_missing))]
 fn outcome(world: &mut World, event: &ScriptEvent) -> Result<Line, AllocError>
     ensures line { IfOk result (λ line. line ≡ line_of (step world.old event.now.event).1) }
+    ensures fits { IfOk result (λ line. IsLineOf event.now.event line) }
     ensures world { OnOk result (world.new ≡ (step world.old event.now.event).0) }
 {
     match world.step(&event.event) {
@@ -48,18 +67,4 @@ fn outcome(world: &mut World, event: &ScriptEvent) -> Result<Line, AllocError>
         Err(StepFault::NoSuchEdition(_)) => Ok(Line::NoEdition),
         Err(StepFault::Memory) => Err(AllocError),
     }
-}
-
-/// Lets the event happen, and gives its printed line.
-fn line(
-    alloc: Global,
-    place: u64,
-    world: &mut World,
-    event: &ScriptEvent,
-) -> Result<String, AllocError>
-    ensures text { IfOk result (λ text. string_bytes text ≡ line_text place event.now (line_of (step world.old event.now.event).1)) }
-    ensures world { OnOk result (world.new ≡ (step world.old event.now.event).0) }
-{
-    let said = outcome(world, event)?;
-    line_text(alloc, place, event, &said)
 }

@@ -137,9 +137,7 @@ struct Many {
 }
 
 impl Source for Many {
-    ghost left = { λ _. None };
-
-    ghost faults = { λ _. 0 };
+    ghost state = { λ _. record { left = None; faults = 0 } };
 
     fn read(&mut self, room: &mut [u8]) -> Read {
         let size = room.len().min(self.left);

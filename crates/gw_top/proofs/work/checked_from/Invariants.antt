@@ -1,9 +1,0 @@
-use Rattle.std.proofs.Common.{◌≡◌, drop}
-use Rattle.editions.specs.Data.{first_edition}
-use Rattle.gw_top.specs.Work.{after_text, checked_from}
-use Rattle.gw_top.proofs.work.checked_from.Given as goal
-
--- the text so far, and what the editions that are left print, is the output
-abbrev pub invariant-loop-raw : goal.invariant-loop-raw
-invariant-loop-raw l =
-    after_text l.text.items (checked_from l.last (drop l.raw-index l.editions)) ≡ checked_from first_edition l.editions

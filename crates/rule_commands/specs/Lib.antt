@@ -1,0 +1,3 @@
+pub mod OutputData
+pub mod Checking
+pub mod Packets

@@ -1,0 +1,84 @@
+-- Packets that are written and read by the last edition of a work file, as `pack` and `unpack` print it.
+use Rattle.std.specs.Prelude.{ℕ, ◌+◌, not, nat_lt, if◌then◌else◌, List, [], ◌∷◌, ◌++◌, length, Option, Some, None, Result, Ok, Err, codes}
+use Rattle.std.specs.Fmt.{decimal}
+use Rattle.std.specs.Option.{option_map}
+use Rattle.schc_bits.specs.Bits.{octets, padded, bytes_of}
+use Rattle.schc_ids.specs.declared.ends.Iids.{Iids}
+use Rattle.schc_ids.specs.declared.ends.Direction.{Direction}
+use Rattle.schc_ids.specs.declared.faults.UnpackFault.{UnpackFault}
+use Rattle.schc_ids.specs.Limits.{max_packet}
+use Rattle.rule_model.specs.declared.finding.Finding.{Finding}
+use Rattle.rule_model.specs.RawData.{RawEditionData}
+use Rattle.rule_json.specs.Data.{WorkData}
+use Rattle.rule_json.specs.Texts.{work_of}
+use Rattle.editions.specs.Data.{EditionData, first_edition}
+use Rattle.publishing.specs.Published.{published}
+use Rattle.packer.specs.UnpackedData.{UnpackedData}
+use Rattle.packer.specs.Packets.{is_ipv6}
+use Rattle.packer.specs.Packing.{packed}
+use Rattle.packer.specs.Unpacking.{unpacked}
+use Rattle.packer.specs.declared.packing.Packed.{Packed}
+use Rattle.printed_words.specs.Words.{bytes_text, unread_text}
+use Rattle.rule_commands.specs.OutputData.{OutputData}
+
+-- goes on with the next edition, if there is no finding
+abbrev pub then_last : Result EditionData Finding → (EditionData → Result EditionData Finding) → Result EditionData Finding
+then_last (Err finding) later = Err finding
+then_last (Ok next) later = later next
+
+-- the last of these editions, each of which is to follow the one before; or the first finding
+abbrev pub last_from : EditionData → List RawEditionData → Result EditionData Finding
+last_from last [] = Ok last
+last_from last (raw ∷ later) = then_last (published last raw) (λ next. last_from next later)
+
+-- how a packet is written: the RuleID, the number of bits of its SCHC packet, and the SCHC packet, padded to whole bytes
+unfoldable pub written_text : Packed → List ℕ
+written_text w =
+    codes "rule " ++ (decimal w.rule_id ++ (codes " bits " ++ (decimal (length w.bits) ++ (codes " " ++ bytes_text (bytes_of (padded w.bits))))))
+
+-- the outcome of `pack` for a packet
+unfoldable pub pack_outcome : EditionData → Iids → Direction → List ℕ → List ℕ
+pack_outcome edition iids way packet =
+    if not (is_ipv6 packet) then codes "refused not-ipv6"
+    else if nat_lt max_packet (length packet) then codes "refused too-long"
+    else written_text (packed edition iids way packet)
+
+-- what was read
+unfoldable pub read_text : Result UnpackedData UnpackFault → List ℕ
+read_text (Ok read) = codes "rule " ++ (decimal read.rule_id ++ (codes " " ++ bytes_text read.packet))
+read_text (Err fault) = codes "refused " ++ unread_text fault
+
+-- the outcome of `unpack` for a packet
+unfoldable pub unpack_outcome : EditionData → Iids → Direction → List ℕ → List ℕ
+unpack_outcome edition iids way packet = read_text (unpacked edition iids way (octets packet))
+
+-- the line of a packet, which has this place, counted from 1
+unfoldable pub packet_line : ℕ → List ℕ → List ℕ
+packet_line place outcome = decimal place ++ (codes " " ++ (outcome ++ codes "\n"))
+
+-- the lines of these packets
+abbrev pub packet_lines : (List ℕ → List ℕ) → ℕ → List (List ℕ) → List ℕ
+packet_lines outcome place [] = []
+packet_lines outcome place (packet ∷ later) = packet_line place (outcome packet) ++ packet_lines outcome (place + 1) later
+
+-- the output of `pack` or `unpack`, by the last edition: nothing where an edition has a finding
+abbrev pub worked_with : (EditionData → List ℕ → List ℕ) → List (List ℕ) → Result EditionData Finding → OutputData
+worked_with outcome packets (Err finding) = record { text = []; refused = Some finding }
+worked_with outcome packets (Ok edition) = record { text = packet_lines (outcome edition) 1 packets; refused = None }
+
+-- the output of `pack` for a work file
+unfoldable pub packed_work : WorkData → OutputData
+packed_work work =
+    worked_with (λ edition packet. pack_outcome edition work.iids work.direction packet) work.packets (last_from first_edition work.editions)
+
+-- the output of `unpack` for a work file
+unfoldable pub unpacked_work : WorkData → OutputData
+unpacked_work work =
+    worked_with (λ edition packet. unpack_outcome edition work.iids work.direction packet) work.packets (last_from first_edition work.editions)
+
+-- the outputs for a text; none where it is no work file
+abbrev pub pack_of : List ℕ → Option OutputData
+pack_of text = option_map packed_work (work_of text)
+
+abbrev pub unpack_of : List ℕ → Option OutputData
+unpack_of text = option_map unpacked_work (work_of text)

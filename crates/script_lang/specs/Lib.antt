@@ -1,0 +1,6 @@
+pub mod Text
+pub mod ScriptData
+pub mod Ranges
+pub mod Grammar
+pub mod Parsing
+pub mod Spelling

@@ -1,0 +1,190 @@
+//! The lines that tell what happens to a device.
+
+ghost use Rattle.std.specs.Prelude.{◌≡◌, ◌==◌, map, IfOk, IfSome};
+ghost use Rattle.std.specs.Option.{option_map};
+ghost use Rattle.std.specs.List.{list_any};
+ghost use Rattle.event_data.specs.Events.{view_event};
+ghost use Rattle.script_lang.specs.Ranges.{HandsBytes};
+ghost use Rattle.script_lang.specs.Grammar.{role_of, direction_of, slot_event, hand_event, deliver_event, offer_event, allow_event, told_event, is_declared, device_event, event_in};
+
+use crate::scripts::ScriptEvent;
+use crate::text::{edition_number, number, packet, small_number};
+use event_data::WorldEvent;
+use rule_model::DeviceLine;
+use schc_bits::Octets;
+use schc_ids::{Direction, Role};
+use std::alloc::{AllocError, Global};
+
+fn role(word: &[u8]) -> Option<Role>
+    ensures { result ≡ role_of word.now }
+{
+    if word == b"dev".as_slice() {
+        Some(Role::Device)
+    } else if word == b"gw".as_slice() {
+        Some(Role::Gateway)
+    } else {
+        None
+    }
+}
+
+fn direction(word: &[u8]) -> Option<Direction>
+    ensures { result ≡ direction_of word.now }
+{
+    if word == b"up".as_slice() {
+        Some(Direction::Up)
+    } else if word == b"down".as_slice() {
+        Some(Direction::Down)
+    } else {
+        None
+    }
+}
+
+/// The event of `slot N E`, after its N.
+#[tactic(auto, unfolding(crate::specs::Grammar::slot_event))]
+fn slot_event(end: &[u8]) -> Option<WorldEvent>
+    ensures event { option_map view_event result ≡ slot_event end.now }
+    ensures in_range { IfSome result (λ event. HandsBytes (view_event event)) }
+{
+    Some(WorldEvent::Slot(role(end)?))
+}
+
+/// The event of `deliver N up|down K`, after its N.
+#[tactic(auto, unfolding(crate::specs::Grammar::deliver_event))]
+fn deliver_event(way: &[u8], place: &[u8]) -> Option<WorldEvent>
+    ensures event { option_map view_event result ≡ deliver_event way.now place.now }
+    ensures in_range { IfSome result (λ event. HandsBytes (view_event event)) }
+{
+    let direction = direction(way)?;
+    let place = number(place)?;
+    Some(WorldEvent::Deliver(direction, place))
+}
+
+/// The event of `offer N E NUMBER`, after its N.
+#[tactic(auto, unfolding(crate::specs::Grammar::offer_event))]
+fn offer_event(end: &[u8], edition: &[u8]) -> Option<WorldEvent>
+    ensures event { option_map view_event result ≡ offer_event end.now edition.now }
+    ensures in_range { IfSome result (λ event. HandsBytes (view_event event)) }
+{
+    let role = role(end)?;
+    let number = edition_number(edition)?;
+    Some(WorldEvent::Offer(role, number))
+}
+
+/// The event of `allow N E NUMBER`, after its N.
+#[tactic(auto, unfolding(crate::specs::Grammar::allow_event))]
+fn allow_event(end: &[u8], edition: &[u8]) -> Option<WorldEvent>
+    ensures event { option_map view_event result ≡ allow_event end.now edition.now }
+    ensures in_range { IfSome result (λ event. HandsBytes (view_event event)) }
+{
+    let role = role(end)?;
+    let number = edition_number(edition)?;
+    Some(WorldEvent::Allow(role, number))
+}
+
+/// The event of `hand N E HEX`, after its N.
+///
+/// # Errors
+/// Want of memory.
+#[tactic(auto, unfolding(crate::specs::Grammar::hand_event))]
+fn hand_event(alloc: Global, end: &[u8], hex: &[u8]) -> Result<Option<WorldEvent>, AllocError>
+    ensures event { IfOk result (λ event. option_map view_event event ≡ hand_event end.now hex.now) }
+    ensures in_range { IfOk result (λ event. IfSome event (λ e. HandsBytes (view_event e))) }
+{
+    let Some(role) = role(end) else {
+        return Ok(None);
+    };
+    match packet(alloc, hex)? {
+        Some(bytes) => {
+            let mut packet = Octets::new(alloc);
+            packet.extend_from(bytes.as_slice())?;
+            Ok(Some(WorldEvent::Down(role, packet)))
+        }
+        None => Ok(None),
+    }
+}
+
+/// The event that words tell: the name of what happens, and what follows the device's number.
+///
+/// # Errors
+/// Want of memory.
+#[tactic(auto, unfolding(crate::specs::Grammar::told_event))]
+fn told_event(alloc: Global, name: &[u8], words: &[&[u8]]) -> Result<Option<WorldEvent>, AllocError>
+    ensures event { IfOk result (λ event. option_map view_event event ≡ told_event name.now (map (λ word. word.now) words.now)) }
+    ensures in_range { IfOk result (λ event. IfSome event (λ e. HandsBytes (view_event e))) }
+{
+    match words {
+        [end] => {
+            if name == b"slot".as_slice() {
+                Ok(slot_event(end))
+            } else {
+                Ok(None)
+            }
+        }
+        [x, y] => {
+            if name == b"hand".as_slice() {
+                hand_event(alloc, x, y)
+            } else if name == b"deliver".as_slice() {
+                Ok(deliver_event(x, y))
+            } else if name == b"offer".as_slice() {
+                Ok(offer_event(x, y))
+            } else if name == b"allow".as_slice() {
+                Ok(allow_event(x, y))
+            } else {
+                Ok(None)
+            }
+        }
+        _ => Ok(None),
+    }
+}
+
+fn is_declared(devices: &[DeviceLine], number: u16) -> bool
+    ensures { result ≡ is_declared devices.now number }
+{
+    devices.iter().any(|device| device.number == number)
+}
+
+/// The event of the device with this number that words tell, where it is declared.
+///
+/// # Errors
+/// Want of memory.
+#[tactic(auto, unfolding(crate::specs::Grammar::device_event))]
+fn device_event(
+    alloc: Global,
+    devices: &[DeviceLine],
+    device: u16,
+    name: &[u8],
+    words: &[&[u8]],
+) -> Result<Option<ScriptEvent>, AllocError>
+    ensures event { IfOk result (λ event. event ≡ device_event devices.now device name.now (map (λ word. word.now) words.now)) }
+    ensures in_range { IfOk result (λ event. IfSome event (λ e. HandsBytes e.event)) }
+{
+    if !is_declared(devices, device) {
+        return Ok(None);
+    }
+    match told_event(alloc, name, words)? {
+        Some(event) => Ok(Some(ScriptEvent { device, event })),
+        None => Ok(None),
+    }
+}
+
+/// The event that a line of these words tells, where these devices are declared.
+///
+/// # Errors
+/// Want of memory.
+#[tactic(auto, unfolding(crate::specs::Grammar::event_in))]
+pub(crate) fn event(
+    alloc: Global,
+    devices: &[DeviceLine],
+    words: &[&[u8]],
+) -> Result<Option<ScriptEvent>, AllocError>
+    ensures event { IfOk result (λ event. event ≡ event_in devices.now (map (λ word. word.now) words.now)) }
+    ensures in_range { IfOk result (λ event. IfSome event (λ e. HandsBytes e.event)) }
+{
+    match words {
+        [name, number, rest @ ..] => match small_number(number) {
+            Some(device) => device_event(alloc, devices, device, name, rest),
+            None => Ok(None),
+        },
+        _ => Ok(None),
+    }
+}

@@ -1,0 +1,12 @@
+//! The lines that are printed for events and their outcomes.
+#![tactic(auto)]
+
+mod ended;
+mod events;
+mod lines;
+mod outcomes;
+#[cfg(test)]
+mod tests;
+mod words;
+
+pub use lines::line_text;
