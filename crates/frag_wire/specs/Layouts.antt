@@ -1,6 +1,6 @@
 -- RFC 8724, section 8.3: how the messages are written.
 use Rattle.std.specs.Prelude.{ℕ, ◌+◌, ◌^◌, ◌<◌, Bool, true, false, List, [], ◌++◌, drop, replicate}
-use Rattle.schc_bits.specs.Bits.{number_bits}
+use Rattle.schc_bits.specs.Bits.{number_bits, padded, bytes_of}
 use Rattle.schc_ids.specs.declared.fragments.FragParams.{FragParams}
 use Rattle.frag_wire.specs.declared.message.Message.{Message}
 use Rattle.frag_wire.specs.declared.message.Message.TheVariants as form
@@ -19,6 +19,10 @@ head params (form.Ack w true bitmap) = answer_head params.w_bits w 1
 head params (form.Ack w false bitmap) =
     answer_head params.w_bits w 0 ++ kept_bits (params.w_bits + 1) (number_bits params.window bitmap)
 head params form.ReceiverAbort = number_bits 16 (all_ones 16)
+
+-- the bytes that are written for the message with the payload: with the fewest zero bits after them that make whole bytes
+abbrev pub written : FragParams → Message → List Bool → List ℕ
+written params message payload = bytes_of (padded (head params message ++ payload))
 
 -- the message, with the place at which its payload begins
 abbrev pub placed : FragParams → Message → Message

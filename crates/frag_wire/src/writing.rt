@@ -1,10 +1,9 @@
 //! Writing a message.
 
 ghost use Rattle.std.specs.Prelude.{ℕ, ◌≡◌, ◌-◌, ◌^◌, ◌<◌, ◌≤◌, Bool, List, ◌++◌, OnOk, IfOk};
-ghost use Rattle.schc_bits.specs.Bits.{padded, bytes_of};
 ghost use Rattle.schc_ids.specs.Fragments.{IsFragParams};
 ghost use Rattle.frag_wire.specs.Forms.{all_ones, fragment_head};
-ghost use Rattle.frag_wire.specs.Layouts.{head, HeadFits};
+ghost use Rattle.frag_wire.specs.Layouts.{head, written, HeadFits};
 ghost use Rattle.frag_wire.specs.Spells.{CanSpell, IsWritten};
 
 use crate::answers::{push_answer_head, push_bitmap};
@@ -28,7 +27,7 @@ pub fn write(
 ) -> Result<Octets, AllocError>
     requires row { IsFragParams params.now }
     requires spelt { CanSpell params.now side message.now payload.now }
-    ensures exact { IfOk result (λ bytes. bytes.items ≡ bytes_of (padded (head params.now message.now ++ payload.now))) }
+    ensures exact { IfOk result (λ bytes. bytes.items ≡ written params.now message.now payload.now) }
     ensures spells { IfOk result (λ bytes. IsWritten params.now side message.now payload.now bytes.items) }
 {
     let mut bits = Bits::new(alloc);

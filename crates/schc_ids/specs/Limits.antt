@@ -33,6 +33,17 @@ queue_room = 8
 abbrev pub reassembly_bytes : ℕ
 reassembly_bytes = 2530
 
+-- the bits of an SCHC packet that is cut in tiles, and of one that goes as a session: at most the tiles of four windows of 63
+-- (RFC 9011, section 5.6.2)
+abbrev pub min_cut_bits : ℕ
+min_cut_bits = 96
+
+abbrev pub min_session_bits : ℕ
+min_session_bits = 128
+
+abbrev pub max_session_bits : ℕ
+max_session_bits = 20160
+
 -- how often an answer is asked for in a row: MAX_ACK_REQUESTS of RFC 8724, section 8.2.2.4
 abbrev pub max_ack_requests : ℕ
 max_ack_requests = 8

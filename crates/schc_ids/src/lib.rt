@@ -10,6 +10,7 @@ pub mod laws;
 pub mod limits;
 mod names;
 mod notes;
+mod phases;
 #[cfg(test)]
 mod tests;
 mod texts;
@@ -21,4 +22,5 @@ pub use faults::{ResidueFault, UnpackFault, WireFault};
 pub use fragments::{FragMode, FragParams, Side};
 pub use names::{FieldAt, FieldName, Layer, Stack, always_present, width};
 pub use notes::{Cause, FailCause, Heard, Note, Report, ReportKind};
+pub use phases::{ReceiverPhase, SenderPhase};
 pub use texts::{name_of_text, text_of};

@@ -24,6 +24,16 @@ pub const QUEUE_ROOM: usize = 8;
 /// The bytes that an end keeps of the fragments of a packet.
 pub const REASSEMBLY_BYTES: usize = 2530;
 
+/// The fewest bits of an SCHC packet that is cut in tiles.
+pub const MIN_CUT_BITS: usize = 96;
+
+/// The fewest bits of an SCHC packet that goes as a session: what is shorter fits a frame.
+pub const MIN_SESSION_BITS: usize = 128;
+
+/// The most bits of an SCHC packet that goes as a session: the tiles of four windows of 63 (RFC
+/// 9011 section 5.6.2).
+pub const MAX_SESSION_BITS: usize = 20_160;
+
 /// How often an answer is asked for in a row (MAX_ACK_REQUESTS, RFC 8724 section 8.2.2.4).
 pub const MAX_ACK_REQUESTS: u8 = 8;
 
