@@ -4,14 +4,15 @@ use Rattle.std.proofs.lemmas.Option.{get_or_from_slice_get, slice_get_within}
 use Rattle.std.proofs.lemmas.List.Sorted.{All-permutation, length_permutation, sum_by-IsPermutation, IsPermutation-sym}
 use Rattle.std.proofs.lemmas.List.Sums.{sum_by-take-le, count_by_more_yes}
 use Rattle.rule_model.specs.declared.finding.Finding.{Finding}
+use Rattle.rule_model.specs.declared.finding.FindingKind.{FindingKind}
 use Rattle.rule_model.specs.Findings.{IsAdmitted}
 use Rattle.editions.specs.declared.listed.Listed.{Listed}
 use Rattle.editions.specs.declared.losses.Loss.{Loss}
 use Rattle.editions.specs.declared.losses.Loss.TheVariants.{IdGone, MeaningChanged, Revived}
 use Rattle.editions.specs.Data.{EditionData, lookup, AreAdmitted, NoIdTwice}
 use Rattle.editions.specs.Losses.{HasSameRule, StaysRetired, IsFirstLoss, KeepsId}
-use Rattle.editions.specs.Follows.{Follows, IsWithinLimits, entry_octets, IsFirstRepeat, IsFirstFinding, number_not_next, too_large, id_twice, lost}
-use Rattle.editions.specs.Losses.{IsLowestLoss, number_of_loss}
+use Rattle.editions.specs.Follows.{Follows, IsWithinLimits, entry_octets, IsFirstRepeat, IsFirstFinding, finding, number_not_next, too_large, id_twice, lost}
+use Rattle.editions.specs.Losses.{IsLowestLoss, kind_of_loss}
 use Rattle.editions.specs.Chains.{EndsChain, IsEdition}
 use Rattle.editions.specs.Faults.{IsMadeOf}
 use Rattle.std.specs.List.Sorted.{IsNonDecreasingBy}
@@ -105,10 +106,10 @@ pub found-id_twice : (old : EditionData) (number : ℕ) (rules : List Listed) (f
 found-id_twice old number rules found id given before within g b next limits e repeated f =
     subst (IsFirstFinding old number rules) (sym f) (id_twice id (omega arith) (limits.0 e) repeated)
 
-pub found-lost : (old : EditionData) (number : ℕ) (rules : List Listed) (found : Finding) (id kind given before : ℕ) (loss : Loss) (within : Bool) → given ≡ number → before ≡ old.number → given ≡ before + 1 → IsTrue within ↔ IsWithinLimits number rules → within ≡ true → NoIdTwice rules → IsLowestLoss old.rules rules id loss → kind ≡ number_of_loss loss → found ≡ record { number = kind; id = id; entry = 0 } → IsFirstFinding old number rules found
-found-lost old number rules found id kind given before loss within g b next limits e once lowest k f =
+pub found-lost : (old : EditionData) (number : ℕ) (rules : List Listed) (found : Finding) (id : ℕ) (k : FindingKind) (given before : ℕ) (loss : Loss) (within : Bool) → given ≡ number → before ≡ old.number → given ≡ before + 1 → IsTrue within ↔ IsWithinLimits number rules → within ≡ true → NoIdTwice rules → IsLowestLoss old.rules rules id loss → k ≡ kind_of_loss loss → found ≡ finding k id → IsFirstFinding old number rules found
+found-lost old number rules found id k given before loss within g b next limits e once lowest same f =
     subst (IsFirstFinding old number rules) (sym f)
-    (subst (λ n. IsFirstFinding old number rules (record { number = n; id = id; entry = 0 })) (sym k)
+    (subst (λ n. IsFirstFinding old number rules (finding n id)) (sym same)
     (lost id loss (omega arith) (limits.0 e) once lowest))
 
 -- the same of the edition whose number and rules were read

@@ -6,6 +6,7 @@ use Rattle.std.proofs.lemmas.Bool.{leb-true, le-leb, false_from_ne_true}
 use Rattle.std.proofs.lemmas.Bool.Decides.{Decides-and, Decides-like, Decides-by_and}
 use Rattle.std.proofs.lemmas.List.Sorted.{IsPermutation-sym}
 use Rattle.rule_model.specs.declared.finding.Finding.{Finding}
+use Rattle.rule_model.specs.declared.finding.FindingKind.TheVariants as finding_kind
 use Rattle.editions.specs.declared.listed.Listed.{Listed}
 use Rattle.editions.specs.declared.losses.LostId.{LostId}
 use Rattle.editions.specs.Data.{EditionData, IsAscending}
@@ -39,7 +40,7 @@ is_within_limits-Decides number rules =
 
 -- the first finding by the two tests
 abbrev found_by : Bool → Bool → Option Finding → Option Finding
-found_by next within rest = cond (not next) (Some (finding 14 0)) (cond (not within) (Some (finding 18 0)) rest)
+found_by next within rest = cond (not next) (Some (finding finding_kind.NumberNotNext 0)) (cond (not within) (Some (finding finding_kind.TooLarge 0)) rest)
 
 first_finding-at : (old : EditionData) (number : ℕ) (rules : List Listed) (next within : Bool) (repeated : Option ℕ) (low : Option LostId) → (number == old.number + 1) ≡ next → is_within_limits number rules ≡ within → first_repeat rules ≡ repeated → lowest_loss old.rules rules ≡ low → first_finding old number rules ≡ found_by next within (repeat_or_loss repeated low)
 unfolding first_finding

@@ -5,6 +5,7 @@ pub mod ChainLemmas
 pub mod SameRuleLemmas
 pub mod RepeatLemmas
 pub mod LossLemmas
+pub mod InChainLemmas
 pub mod ByIdLemmas
 pub mod FollowedLemmas
 pub mod KeyLemmas

@@ -4,12 +4,13 @@ use Rattle.std.specs.List.{list_all}
 use Rattle.std.specs.Option.{option_map}
 use Rattle.std.specs.List.Sorted.{IsPermutation}
 use Rattle.rule_model.specs.declared.finding.Finding.{Finding}
+use Rattle.rule_model.specs.declared.finding.FindingKind.TheVariants as kind
 use Rattle.editions.specs.declared.listed.Listed.{Listed}
 use Rattle.editions.specs.declared.losses.Loss.{Loss}
 use Rattle.editions.specs.declared.losses.Loss.TheVariants.{IdGone, MeaningChanged, Revived}
 use Rattle.editions.specs.declared.losses.LostId.{LostId}
 use Rattle.editions.specs.Data.{EditionData, lookup, IsAscending, NoIdTwice}
-use Rattle.editions.specs.Losses.{number_of_loss}
+use Rattle.editions.specs.Losses.{kind_of_loss}
 use Rattle.editions.specs.Follows.{target_octets, finding}
 use Rattle.editions.specs.SameRules.{same_rule}
 
@@ -54,15 +55,15 @@ diverged these those = option_map (λ lost. lost.id) (lowest_loss these those)
 
 -- a RuleID that repeats comes before a loss
 abbrev pub repeat_or_loss : Option ℕ → Option LostId → Option Finding
-repeat_or_loss (Some id) lost = Some (finding 3 id)
-repeat_or_loss None (Some lost) = Some (finding (number_of_loss lost.loss) lost.id)
+repeat_or_loss (Some id) lost = Some (finding kind.IdTwice id)
+repeat_or_loss None (Some lost) = Some (finding (kind_of_loss lost.loss) lost.id)
 repeat_or_loss None None = None
 
 -- the first finding that holds: number-not-next, too-large, id-twice, and then the lowest loss
 unfoldable pub first_finding : EditionData → ℕ → List Listed → Option Finding
 first_finding old number rules =
-    if not (number == old.number + 1) then Some (finding 14 0)
-    else if not (is_within_limits number rules) then Some (finding 18 0)
+    if not (number == old.number + 1) then Some (finding kind.NumberNotNext 0)
+    else if not (is_within_limits number rules) then Some (finding kind.TooLarge 0)
     else repeat_or_loss (first_repeat rules) (lowest_loss old.rules rules)
 
 -- the rule at its place among rules in ascending order of RuleID

@@ -1,11 +1,14 @@
 -- When an edition follows another, and what keeps it from that.
 use Rattle.std.specs.Prelude.{ℕ, ◌≡◌, ◌≢◌, ◌+◌, ◌/◌, ◌≤◌, List, length, take, sum_by, count_by, ◌==◌, All, IfSome, IsSomeAnd, slice_get}
 use Rattle.rule_model.specs.declared.finding.Finding.{Finding}
+use Rattle.rule_model.specs.declared.finding.FindingKind.{FindingKind}
+use Rattle.rule_model.specs.declared.finding.FindingKind.TheVariants as kind
+use Rattle.rule_model.specs.Findings.{number_of}
 use Rattle.rule_model.specs.Data.{EntryData}
 use Rattle.editions.specs.declared.listed.Listed.{Listed}
 use Rattle.editions.specs.declared.losses.Loss.{Loss}
 use Rattle.editions.specs.Data.{EditionData, lookup, NoIdTwice}
-use Rattle.editions.specs.Losses.{HasSameRule, StaysRetired, IsLowestLoss, number_of_loss}
+use Rattle.editions.specs.Losses.{HasSameRule, StaysRetired, IsLowestLoss, kind_of_loss}
 
 -- the bytes of an entry's targets, each counted in whole bytes, rounded up
 abbrev pub entry_octets : EntryData → ℕ
@@ -44,12 +47,12 @@ pub record IsFirstRepeat (rules : List Listed) (id : ℕ) : Type 0 where
   pub first : NoIdTwice (take place rules)
 
 -- a finding that is about no single entry
-abbrev pub finding : ℕ → ℕ → Finding
-finding number id = record { number = number; id = id; entry = 0 }
+abbrev pub finding : FindingKind → ℕ → Finding
+finding k id = record { number = number_of k; id = id; entry = 0 }
 
 -- the finding that keeps the rules with this number from following the old edition: the first that holds, in this order
 pub data IsFirstFinding (old : EditionData) (number : ℕ) (rules : List Listed) : Finding → Type 0 where
-  number_not_next : number ≢ old.number + 1 → IsFirstFinding old number rules (finding 14 0)
-  too_large : number ≡ old.number + 1 → ¬ IsWithinLimits number rules → IsFirstFinding old number rules (finding 18 0)
-  id_twice : (id : ℕ) → number ≡ old.number + 1 → IsWithinLimits number rules → IsFirstRepeat rules id → IsFirstFinding old number rules (finding 3 id)
-  lost : (id : ℕ) (loss : Loss) → number ≡ old.number + 1 → IsWithinLimits number rules → NoIdTwice rules → IsLowestLoss old.rules rules id loss → IsFirstFinding old number rules (finding (number_of_loss loss) id)
+  number_not_next : number ≢ old.number + 1 → IsFirstFinding old number rules (finding kind.NumberNotNext 0)
+  too_large : number ≡ old.number + 1 → ¬ IsWithinLimits number rules → IsFirstFinding old number rules (finding kind.TooLarge 0)
+  id_twice : (id : ℕ) → number ≡ old.number + 1 → IsWithinLimits number rules → IsFirstRepeat rules id → IsFirstFinding old number rules (finding kind.IdTwice id)
+  lost : (id : ℕ) (loss : Loss) → number ≡ old.number + 1 → IsWithinLimits number rules → NoIdTwice rules → IsLowestLoss old.rules rules id loss → IsFirstFinding old number rules (finding (kind_of_loss loss) id)

@@ -2,6 +2,8 @@
 use Rattle.std.specs.Prelude.{ℕ, ◌≡◌, ◌≢◌, ◌<◌, ◌⊎◌, true, false, List, Option, None, IfSome, IsSomeAnd}
 use Rattle.editions.specs.declared.listed.Listed.{Listed}
 use Rattle.editions.specs.declared.losses.Loss.{Loss}
+use Rattle.rule_model.specs.declared.finding.FindingKind.{FindingKind}
+use Rattle.rule_model.specs.declared.finding.FindingKind.TheVariants as kind
 use Rattle.editions.specs.declared.losses.Loss.TheVariants.{IdGone, MeaningChanged, Revived}
 use Rattle.editions.specs.Data.{lookup}
 
@@ -33,11 +35,11 @@ IsFirstLoss was now IdGone = IsGone now
 IsFirstLoss was now MeaningChanged = HasOtherRule was now
 IsFirstLoss was now Revived = HasSameRule was now × IsRevived was now
 
--- the finding's number
-abbrev pub number_of_loss : Loss → ℕ
-number_of_loss IdGone = 15
-number_of_loss MeaningChanged = 16
-number_of_loss Revived = 17
+-- the kind of the finding
+abbrev pub kind_of_loss : Loss → FindingKind
+kind_of_loss IdGone = kind.IdGone
+kind_of_loss MeaningChanged = kind.MeaningChanged
+kind_of_loss Revived = kind.Revived
 
 -- the RuleID isn't listed in the one, or the other has its rule, and has it retired where the one has
 abbrev pub KeepsId : List Listed → List Listed → ℕ → Type 0

@@ -2,12 +2,12 @@
 
 ghost use Rattle.std.specs.Prelude.{◌≡◌, IfNone, MatchOption, is_some};
 ghost use Rattle.editions.specs.Data.{lookup, AreAdmitted, IsAscending, NoIdTwice};
-ghost use Rattle.editions.specs.Follows.{Follows, IsFirstRepeat, IsFirstFinding};
+ghost use Rattle.editions.specs.Follows.{Follows, finding, IsFirstRepeat, IsFirstFinding};
 
 use crate::limits::is_within_limits;
 use crate::listed::{Listed, id_of, lookup};
 use crate::losses::lowest_loss;
-use rule_model::Finding;
+use rule_model::{Finding, FindingKind};
 
 fn is_listed(rules: &[Listed], id: u16) -> bool
     ensures { result ≡ is_some (lookup rules.now id) }
@@ -28,11 +28,11 @@ fn first_repeat(rules: &[Listed]) -> Option<u16>
     None
 }
 
-fn finding(number: u8, id: u16) -> Finding
-    ensures { result ≡ record { number = number; id = id; entry = 0 } }
+fn finding(kind: FindingKind, id: u16) -> Finding
+    ensures { result ≡ finding kind id }
 {
     Finding {
-        number,
+        number: kind.number(),
         id,
         entry: 0,
     }
@@ -47,16 +47,16 @@ pub fn finding_of(old_number: u32, old: &[Listed], number: u32, rules: &[Listed]
         (IsFirstFinding (record { number = old_number; rules = old.now }) number rules.now) }
 {
     if u64::from(number) != u64::from(old_number) + 1 {
-        return Some(finding(14, 0));
+        return Some(finding(FindingKind::NumberNotNext, 0));
     }
     if !is_within_limits(number, rules) {
-        return Some(finding(18, 0));
+        return Some(finding(FindingKind::TooLarge, 0));
     }
     if let Some(id) = first_repeat(rules) {
-        return Some(finding(3, id));
+        return Some(finding(FindingKind::IdTwice, id));
     }
     if let Some(lost) = lowest_loss(old, rules) {
-        return Some(finding(lost.loss.number(), lost.id));
+        return Some(finding(lost.loss.kind(), lost.id));
     }
     None
 }

@@ -19,14 +19,14 @@ use schc_ids::{Direction, FieldName, Stack, covers};
 use std::alloc::{AllocError, Global};
 
 /// The keys that a rule takes: every one, or only the target of its key entry.
-#[derive(Clone, Copy)]
+#[derive(Clone, Copy, Debug, PartialEq, Eq)]
 pub(crate) enum Wanted {
     Any,
     Only(u64),
 }
 
 /// A rule with which packets of a direction and a stack are written, and the keys that it takes.
-#[derive(Clone, Copy)]
+#[derive(Clone, Copy, Debug, PartialEq, Eq)]
 pub(crate) struct Candidate {
     pub(crate) id: u16,
     pub(crate) wanted: Wanted,

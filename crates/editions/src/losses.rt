@@ -2,13 +2,14 @@
 
 ghost use Rattle.std.specs.Prelude.{ℕ, ◌≡◌, MatchOption, option_copied};
 ghost use Rattle.editions.specs.Data.{IsAscending};
-ghost use Rattle.editions.specs.Losses.{HasSameRule, StaysRetired, IsFirstLoss, number_of_loss, KeepsId, IsLowestLoss};
+ghost use Rattle.editions.specs.Losses.{HasSameRule, StaysRetired, IsFirstLoss, kind_of_loss, KeepsId, IsLowestLoss};
 
 use crate::listed::{Listed, id_of, lookup};
+use rule_model::FindingKind;
 use schc_bits::Same;
 
 /// What is lost of a RuleID of an edition.
-#[derive(Clone, Copy)]
+#[derive(Clone, Copy, Debug, PartialEq, Eq)]
 pub enum Loss {
     /// It isn't listed any more.
     IdGone,
@@ -19,20 +20,20 @@ pub enum Loss {
 }
 
 impl Loss {
-    /// The finding's number.
-    pub fn number(self) -> u8
-        ensures { result ≡ number_of_loss self }
+    /// The kind of the finding.
+    pub fn kind(self) -> FindingKind
+        ensures { result ≡ kind_of_loss self }
     {
         match self {
-            Loss::IdGone => 15,
-            Loss::MeaningChanged => 16,
-            Loss::Revived => 17,
+            Loss::IdGone => FindingKind::IdGone,
+            Loss::MeaningChanged => FindingKind::MeaningChanged,
+            Loss::Revived => FindingKind::Revived,
         }
     }
 }
 
 /// A loss, and the RuleID of which it is.
-#[derive(Clone, Copy)]
+#[derive(Clone, Copy, Debug, PartialEq, Eq)]
 pub struct LostId {
     pub id: u16,
     pub loss: Loss,

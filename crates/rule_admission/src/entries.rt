@@ -1,6 +1,6 @@
 //! What can be wrong with an entry beside the others of its rule, and with the rule as a whole.
 
-ghost use Rattle.std.specs.Prelude.{◌≡◌, ◌&&◌};
+ghost use Rattle.std.specs.Prelude.{◌≡◌, ◌==◌, ◌&&◌};
 ghost use Rattle.std.specs.List.{list_any};
 ghost use Rattle.schc_ids.specs.Names.{same_name};
 ghost use Rattle.schc_ids.specs.Ends.{share_direction};
@@ -15,6 +15,9 @@ ghost use Rattle.rule_model.specs.Findings.{
 };
 
 use rule_model::{Entry, Rule, has_layer, serves};
+use schc_ids::limits::{
+    ACK_ALWAYS_PORT, ACK_ON_ERROR_PORT, NO_ACK_DOWN_PORT, NO_ACK_UP_PORT, UNCOMPRESSED,
+};
 use schc_ids::{Direction, FieldName, Layer, share_direction};
 
 /// The RuleID is 0 or above 223.
@@ -24,11 +27,22 @@ pub fn id_out_of_range(rule: &Rule) -> bool
     rule.id == 0 || rule.id > 223
 }
 
-/// The RuleID is 20, 21, 22, 222 or 223.
+/// The RuleID is the port.
+fn is_port(rule: &Rule, port: u8) -> bool
+    ensures { result ≡ (rule.now.id == port) }
+{
+    rule.id == u16::from(port)
+}
+
+/// The RuleID is one that fragments and their answers have, or packets that no rule compresses.
 pub fn id_reserved(rule: &Rule) -> bool
     ensures { result ≡ id_reserved rule.now }
 {
-    rule.id == 20 || rule.id == 21 || rule.id == 22 || rule.id == 222 || rule.id == 223
+    is_port(rule, ACK_ON_ERROR_PORT)
+        || is_port(rule, ACK_ALWAYS_PORT)
+        || is_port(rule, UNCOMPRESSED)
+        || is_port(rule, NO_ACK_UP_PORT)
+        || is_port(rule, NO_ACK_DOWN_PORT)
 }
 
 /// A CoAP field and no UDP field, or a UDP field and no IPv6 field.

@@ -13,7 +13,7 @@ use Rattle.schc_ids.specs.declared.names.FieldName.TheVariants.{CoapTkl, CoapTok
 use Rattle.schc_ids.specs.declared.names.Stack.{Stack}
 use Rattle.schc_ids.specs.Ends.{covers, share_direction}
 use Rattle.schc_ids.specs.Names.{same_name}
-use Rattle.rule_model.specs.declared.finding.Row.TheVariants as row
+use Rattle.rule_model.specs.declared.finding.FindingKind.TheVariants as kind
 use Rattle.rule_model.specs.Data.{EntryData, RuleData}
 use Rattle.rule_model.specs.Cover.{field_of, stack_of}
 use Rattle.rule_model.specs.Findings.{is_of_entry, shape_wrong, pair_not_allowed, target_wrong, msb_wrong, not_droppable, compute_wrong, repeats, order_wrong, IsAdmitted}
@@ -55,12 +55,12 @@ pub record EntryHolds (stack : Stack) (e : EntryData) : Type 0 where
 pub EntryHolds-from_IsAdmitted : (rule : RuleData) → IsAdmitted rule → (e : EntryData) → Contains rule.entries e → EntryHolds (stack_of rule) e
 EntryHolds-from_IsAdmitted rule admitted e among =
     record {
-      shape = subst (λ d. shape_wrong d ≡ false) among.2 (none-passes (is_of_entry row.ShapeWrong rule) rule.entries (admitted row.ShapeWrong) among.0 e among.1);
-      pair = subst (λ d. pair_not_allowed d ≡ false) among.2 (none-passes (is_of_entry row.PairNotAllowed rule) rule.entries (admitted row.PairNotAllowed) among.0 e among.1);
-      target = subst (λ d. target_wrong (stack_of rule) d ≡ false) among.2 (none-passes (is_of_entry row.TargetWrong rule) rule.entries (admitted row.TargetWrong) among.0 e among.1);
-      msb = subst (λ d. msb_wrong d ≡ false) among.2 (none-passes (is_of_entry row.MsbWrong rule) rule.entries (admitted row.MsbWrong) among.0 e among.1);
-      needed = subst (λ d. not_droppable d ≡ false) among.2 (none-passes (is_of_entry row.NotDroppable rule) rule.entries (admitted row.NotDroppable) among.0 e among.1);
-      computed = subst (λ d. compute_wrong d ≡ false) among.2 (none-passes (is_of_entry row.ComputeWrong rule) rule.entries (admitted row.ComputeWrong) among.0 e among.1);
+      shape = subst (λ d. shape_wrong d ≡ false) among.2 (none-passes (is_of_entry kind.ShapeWrong rule) rule.entries (admitted kind.ShapeWrong) among.0 e among.1);
+      pair = subst (λ d. pair_not_allowed d ≡ false) among.2 (none-passes (is_of_entry kind.PairNotAllowed rule) rule.entries (admitted kind.PairNotAllowed) among.0 e among.1);
+      target = subst (λ d. target_wrong (stack_of rule) d ≡ false) among.2 (none-passes (is_of_entry kind.TargetWrong rule) rule.entries (admitted kind.TargetWrong) among.0 e among.1);
+      msb = subst (λ d. msb_wrong d ≡ false) among.2 (none-passes (is_of_entry kind.MsbWrong rule) rule.entries (admitted kind.MsbWrong) among.0 e among.1);
+      needed = subst (λ d. not_droppable d ≡ false) among.2 (none-passes (is_of_entry kind.NotDroppable rule) rule.entries (admitted kind.NotDroppable) among.0 e among.1);
+      computed = subst (λ d. compute_wrong d ≡ false) among.2 (none-passes (is_of_entry kind.ComputeWrong rule) rule.entries (admitted kind.ComputeWrong) among.0 e among.1);
     }
 
 -- no token's entry stands before a token length entry that is used with it
@@ -74,7 +74,7 @@ order_along (e ∷ entries) h = (h 0 e (omega arith), order_along entries (λ k 
 
 pub InOrder-from_IsAdmitted : (rule : RuleData) → IsAdmitted rule → InOrder rule.entries
 InOrder-from_IsAdmitted rule admitted =
-    order_along rule.entries (none-passes (is_of_entry row.OrderWrong rule) rule.entries (admitted row.OrderWrong))
+    order_along rule.entries (none-passes (is_of_entry kind.OrderWrong rule) rule.entries (admitted kind.OrderWrong))
 
 -- no entry repeats an earlier one
 abbrev pub AreApart : List EntryData → Type 0
@@ -93,7 +93,7 @@ apart_along (e ∷ entries) h =
 
 pub AreApart-from_IsAdmitted : (rule : RuleData) → IsAdmitted rule → AreApart rule.entries
 AreApart-from_IsAdmitted rule admitted =
-    apart_along rule.entries (none-passes (is_of_entry row.FieldTwice rule) rule.entries (admitted row.FieldTwice))
+    apart_along rule.entries (none-passes (is_of_entry kind.FieldTwice rule) rule.entries (admitted kind.FieldTwice))
 
 -- entries that are used in one direction share it
 share : (a b : DirInd) (direction : Direction) → covers a direction ≡ true → covers b direction ≡ true → share_direction a b ≡ true

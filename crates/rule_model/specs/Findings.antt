@@ -1,4 +1,4 @@
--- What keeps a rule from being admitted. Each row of the table of findings is a test of its own.
+-- What keeps a rule from being admitted. Each kind of finding is a test of its own.
 use Rattle.std.specs.Prelude.{ℕ, ◌≡◌, ◌+◌, ◌*◌, ◌%◌, ◌==◌, Bool, true, false, ◌&&◌, ◌||◌, not, nat_lt, nat_le, if◌then◌else◌, List, [], ◌∷◌, length, take, drop, Option, Some, None, position}
 use Rattle.std.specs.List.{list_any, list_all, enumerate_from}
 use Rattle.std.specs.Option.{option_map}
@@ -10,6 +10,7 @@ use Rattle.schc_ids.specs.declared.names.Layer.TheVariants as layer
 use Rattle.schc_ids.specs.declared.names.Stack.{Stack}
 use Rattle.schc_ids.specs.declared.names.Stack.TheVariants as stack
 use Rattle.schc_ids.specs.Ends.{share_direction}
+use Rattle.schc_ids.specs.Limits.{ack_on_error_port, ack_always_port, uncompressed_port, no_ack_up_port, no_ack_down_port}
 use Rattle.schc_ids.specs.Names.{is_option, same_name, width_of}
 use Rattle.rule_model.specs.declared.rule.Length.{Length}
 use Rattle.rule_model.specs.declared.rule.Length.TheVariants.{Fixed, Variable, TokenLength}
@@ -17,8 +18,8 @@ use Rattle.rule_model.specs.declared.rule.Operator.{Operator}
 use Rattle.rule_model.specs.declared.rule.Operator.TheVariants.{Equal, Ignore, Msb, MatchMapping}
 use Rattle.rule_model.specs.declared.rule.Action.{Action}
 use Rattle.rule_model.specs.declared.rule.Action.TheVariants.{NotSent, ValueSent, MappingSent, Lsb, Compute, DevIid, AppIid}
-use Rattle.rule_model.specs.declared.finding.Row.{Row}
-use Rattle.rule_model.specs.declared.finding.Row.TheVariants as row
+use Rattle.rule_model.specs.declared.finding.FindingKind.{FindingKind}
+use Rattle.rule_model.specs.declared.finding.FindingKind.TheVariants as kind
 use Rattle.rule_model.specs.declared.finding.Finding.{Finding}
 use Rattle.rule_model.specs.Data.{EntryData, RuleData}
 use Rattle.rule_model.specs.Cover.{has_layer, stack_of, serves, is_lossy}
@@ -27,9 +28,11 @@ use Rattle.rule_model.specs.Cover.{has_layer, stack_of, serves, is_lossy}
 abbrev pub id_out_of_range : RuleData → Bool
 id_out_of_range rule = (rule.id == 0) || nat_lt 223 rule.id
 
--- id-reserved: the RuleID is one of RFC 9011 (20, 21, 22), or of the fragments without answers (222, 223)
+-- id-reserved: the RuleID is one of RFC 9011, or of the fragments without answers
 abbrev pub id_reserved : RuleData → Bool
-id_reserved rule = (rule.id == 20) || (rule.id == 21) || (rule.id == 22) || (rule.id == 222) || (rule.id == 223)
+id_reserved rule =
+    (rule.id == ack_on_error_port) || (rule.id == ack_always_port) || (rule.id == uncompressed_port)
+    || (rule.id == no_ack_up_port) || (rule.id == no_ack_down_port)
 
 -- mixed-stack: a CoAP field and no UDP field, or a UDP field and no IPv6 field
 abbrev pub mixed_stack : RuleData → Bool
@@ -195,67 +198,80 @@ order_wrong e later =
     same_name e.name CoapToken
     && list_any (λ f. same_name f.name CoapTkl && share_direction e.direction f.direction) later
 
--- the rows that are of the rule as a whole
-abbrev pub is_of_rule : Row → RuleData → Bool
-is_of_rule row.IdOutOfRange rule = id_out_of_range rule
-is_of_rule row.IdReserved rule = id_reserved rule
-is_of_rule row.MixedStack rule = mixed_stack rule
-is_of_rule row.ServesNoDirection rule = serves_no_direction rule
+-- the kinds that are of the rule as a whole
+abbrev pub is_of_rule : FindingKind → RuleData → Bool
+is_of_rule kind.IdOutOfRange rule = id_out_of_range rule
+is_of_rule kind.IdReserved rule = id_reserved rule
+is_of_rule kind.MixedStack rule = mixed_stack rule
+is_of_rule kind.ServesNoDirection rule = serves_no_direction rule
 is_of_rule _ rule = false
 
--- the rows that are of an entry, which has `before` entries before it
-abbrev pub is_of_entry : Row → RuleData → ℕ → EntryData → Bool
-is_of_entry row.FieldTwice rule before e = field_twice (take before rule.entries) e
-is_of_entry row.ShapeWrong rule before e = shape_wrong e
-is_of_entry row.PairNotAllowed rule before e = pair_not_allowed e
-is_of_entry row.TargetWrong rule before e = target_wrong (stack_of rule) e
-is_of_entry row.MsbWrong rule before e = msb_wrong e
-is_of_entry row.NotDroppable rule before e = not_droppable e
-is_of_entry row.ComputeWrong rule before e = compute_wrong e
-is_of_entry row.OrderWrong rule before e = order_wrong e (drop before rule.entries)
+-- the kinds that are of an entry, which has `before` entries before it
+abbrev pub is_of_entry : FindingKind → RuleData → ℕ → EntryData → Bool
+is_of_entry kind.FieldTwice rule before e = field_twice (take before rule.entries) e
+is_of_entry kind.ShapeWrong rule before e = shape_wrong e
+is_of_entry kind.PairNotAllowed rule before e = pair_not_allowed e
+is_of_entry kind.TargetWrong rule before e = target_wrong (stack_of rule) e
+is_of_entry kind.MsbWrong rule before e = msb_wrong e
+is_of_entry kind.NotDroppable rule before e = not_droppable e
+is_of_entry kind.ComputeWrong rule before e = compute_wrong e
+is_of_entry kind.OrderWrong rule before e = order_wrong e (drop before rule.entries)
 is_of_entry _ rule before e = false
 
--- the first entry, from 1, at which a row holds; 0 where it is of the rule as a whole
-abbrev pub place_of : Row → RuleData → Option ℕ
-place_of row rule =
-    if is_of_rule row rule then Some 0
+-- the first entry, from 1, at which there is a finding of this kind; 0 where it is of the rule as a whole
+abbrev pub place_of : FindingKind → RuleData → Option ℕ
+place_of k rule =
+    if is_of_rule k rule then Some 0
     else option_map (λ before. before + 1)
-    (position (λ p. is_of_entry row rule p.0 p.1) (enumerate_from 0 rule.entries))
+    (position (λ p. is_of_entry k rule p.0 p.1) (enumerate_from 0 rule.entries))
 
--- a row's number
-abbrev pub number_of : Row → ℕ
-number_of row.IdOutOfRange = 1
-number_of row.IdReserved = 2
-number_of row.MixedStack = 4
-number_of row.FieldTwice = 5
-number_of row.ServesNoDirection = 6
-number_of row.ShapeWrong = 7
-number_of row.PairNotAllowed = 8
-number_of row.TargetWrong = 9
-number_of row.MsbWrong = 10
-number_of row.NotDroppable = 11
-number_of row.ComputeWrong = 12
-number_of row.OrderWrong = 13
+-- the number of a finding of this kind
+abbrev pub number_of : FindingKind → ℕ
+number_of kind.IdOutOfRange = 1
+number_of kind.IdReserved = 2
+number_of kind.IdTwice = 3
+number_of kind.MixedStack = 4
+number_of kind.FieldTwice = 5
+number_of kind.ServesNoDirection = 6
+number_of kind.ShapeWrong = 7
+number_of kind.PairNotAllowed = 8
+number_of kind.TargetWrong = 9
+number_of kind.MsbWrong = 10
+number_of kind.NotDroppable = 11
+number_of kind.ComputeWrong = 12
+number_of kind.OrderWrong = 13
+number_of kind.NumberNotNext = 14
+number_of kind.IdGone = 15
+number_of kind.MeaningChanged = 16
+number_of kind.Revived = 17
+number_of kind.TooLarge = 18
 
--- the rows in the order of their numbers
-abbrev pub all_rows : List Row
-all_rows =
-    row.IdOutOfRange ∷ row.IdReserved ∷ row.MixedStack ∷ row.FieldTwice ∷ row.ServesNoDirection ∷ row.ShapeWrong
-    ∷ row.PairNotAllowed ∷ row.TargetWrong ∷ row.MsbWrong ∷ row.NotDroppable ∷ row.ComputeWrong ∷ row.OrderWrong ∷ []
+-- the kinds of findings, in the order of their numbers
+abbrev pub all_kinds : List FindingKind
+all_kinds =
+    kind.IdOutOfRange ∷ kind.IdReserved ∷ kind.IdTwice ∷ kind.MixedStack ∷ kind.FieldTwice ∷ kind.ServesNoDirection
+    ∷ kind.ShapeWrong ∷ kind.PairNotAllowed ∷ kind.TargetWrong ∷ kind.MsbWrong ∷ kind.NotDroppable ∷ kind.ComputeWrong
+    ∷ kind.OrderWrong ∷ kind.NumberNotNext ∷ kind.IdGone ∷ kind.MeaningChanged ∷ kind.Revived ∷ kind.TooLarge ∷ []
 
--- none of the rows holds
+-- those that are about one rule
+abbrev pub rule_kinds : List FindingKind
+rule_kinds =
+    kind.IdOutOfRange ∷ kind.IdReserved ∷ kind.MixedStack ∷ kind.FieldTwice ∷ kind.ServesNoDirection ∷ kind.ShapeWrong
+    ∷ kind.PairNotAllowed ∷ kind.TargetWrong ∷ kind.MsbWrong ∷ kind.NotDroppable ∷ kind.ComputeWrong ∷ kind.OrderWrong ∷ []
+
+-- there is no finding of any kind; those of an edition are about no single rule
 abbrev pub IsAdmitted : RuleData → Type 0
-IsAdmitted rule = (row : Row) → place_of row rule ≡ None
+IsAdmitted rule = (k : FindingKind) → place_of k rule ≡ None
 
--- the first of the rows that holds, with the place where it does
-abbrev pub found_at : RuleData → Row → Option ℕ → Option Finding → Option Finding
-found_at rule row None rest = rest
-found_at rule row (Some entry) rest = Some (record { number = number_of row; id = rule.id; entry = entry })
+-- the first of the kinds of which there is a finding, with the place where it is
+abbrev pub found_at : RuleData → FindingKind → Option ℕ → Option Finding → Option Finding
+found_at rule k None rest = rest
+found_at rule k (Some entry) rest = Some (record { number = number_of k; id = rule.id; entry = entry })
 
-abbrev pub first_among : RuleData → List Row → Option Finding
+abbrev pub first_among : RuleData → List FindingKind → Option Finding
 first_among rule [] = None
-first_among rule (row ∷ rows) = found_at rule row (place_of row rule) (first_among rule rows)
+first_among rule (k ∷ kinds) = found_at rule k (place_of k rule) (first_among rule kinds)
 
--- the finding of a rule: the first row that holds, in the order of the numbers, at its first entry
+-- the finding of a rule: the first, in the order of the numbers, at its first entry
 abbrev pub finding_of : RuleData → Option Finding
-finding_of rule = first_among rule all_rows
+finding_of rule = first_among rule rule_kinds

@@ -15,7 +15,7 @@ pub use admitted::Admitted;
 pub use cover::{
     computes_checksum, dropped_fields, has_layer, is_compute, is_lossy, serves, stack_of,
 };
-pub use finding::{Finding, Row};
+pub use finding::{Finding, FindingKind};
 pub use lookup::{index_width, msb_bits, same_bits, value_of};
 pub use parts::{JoinFault, Split, SplitFault};
 pub use presence::{at_name, bits_of, is_at, presence_fault, value_in};

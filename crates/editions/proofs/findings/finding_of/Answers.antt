@@ -15,4 +15,4 @@ returns-in-Some-clause-finding c =
 
 pub returns-in-Some-lowest_loss-clause-finding : goal.returns-in-Some-lowest_loss-clause-finding
 returns-in-Some-lowest_loss-clause-finding c =
-    found-lost _ c.args.number c.args.rules.now c.finding-in-Some-lowest_loss.result c.in-Some-lowest_loss.lost.id c.number.result c.from.result c.from-2.result c.in-Some-lowest_loss.lost.loss c.is_within_limits.result c.from.ensures c.from-2.ensures c.if-from.false c.is_within_limits.ensures.within c.if-not-is_within_limits.false c.in_default.ensures c.in-Some-lowest_loss.ensures c.number.ensures c.finding-in-Some-lowest_loss.ensures
+    found-lost _ c.args.number c.args.rules.now c.finding-in-Some-lowest_loss.result c.in-Some-lowest_loss.lost.id c.kind.result c.from.result c.from-2.result c.in-Some-lowest_loss.lost.loss c.is_within_limits.result c.from.ensures c.from-2.ensures c.if-from.false c.is_within_limits.ensures.within c.if-not-is_within_limits.false c.in_default.ensures c.in-Some-lowest_loss.ensures c.kind.ensures c.finding-in-Some-lowest_loss.ensures
