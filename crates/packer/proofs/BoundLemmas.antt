@@ -89,21 +89,21 @@ one_more fields front back f e used size is room rest =
     omega (arith, sum_cons size e used, room, rest, sum_by-append cost front back, ap (sum_by cost) is, sum_by-append cost front (f ∷ back), sum_cons cost f back)
 
 -- what is sent of all entries has room in the fields
-sum_into : (way : Direction) (entries : List EntryData) (fields : List FieldValue) (size : EntryData → ℕ) → AreApart entries → ((e : EntryData) → Contains (filter (λ e. covers e.direction way) entries) e → HasRoom fields size e) → sum_by size (filter (λ e. covers e.direction way) entries) ≤ sum_by cost fields
-sum_into way [] fields size apart each = omega arith
-sum_into way (e ∷ entries) fields size apart each =
-    elim (cases_Bool (covers e.direction way)) [
-      | inr n ↦ rw n (sum_into way entries fields size apart.1 (λ d among. each d (rw n among)))
+sum_into : (direction : Direction) (entries : List EntryData) (fields : List FieldValue) (size : EntryData → ℕ) → AreApart entries → ((e : EntryData) → Contains (filter (λ e. covers e.direction direction) entries) e → HasRoom fields size e) → sum_by size (filter (λ e. covers e.direction direction) entries) ≤ sum_by cost fields
+sum_into direction [] fields size apart each = omega arith
+sum_into direction (e ∷ entries) fields size apart each =
+    elim (cases_Bool (covers e.direction direction)) [
+      | inr n ↦ rw n (sum_into direction entries fields size apart.1 (λ d among. each d (rw n among)))
       | inl t ↦
-          let used : List EntryData = filter (λ e. covers e.direction way) entries in
+          let used : List EntryData = filter (λ e. covers e.direction direction) entries in
           let own : HasRoom fields size e = each e (rw t (Contains-first e used)) in
           let s = split_at fields own.f own.among in
           let rest : sum_by size used ≤ sum_by cost (s.front ++ s.back) =
-          sum_into way entries (s.front ++ s.back) size apart.1
+          sum_into direction entries (s.front ++ s.back) size apart.1
           (λ d among.
           let its : HasRoom fields size d = each d (rw t (Contains-rest e used d among)) in
-          let is = unfilter (λ e. covers e.direction way) entries d among in
-          let other : same_field (field_of d) (field_of e) ≡ false = other_field d e way (apart.0 d is.0) is.1 t in
+          let is = unfilter (λ e. covers e.direction direction) entries d among in
+          let other : same_field (field_of d) (field_of e) ≡ false = other_field d e direction (apart.0 d is.0) is.1 t in
           record {
             f = its.f;
             among = around s.front s.back own.f its.f (subst (λ (xs : List FieldValue). Contains xs its.f) s.is its.among)
@@ -118,17 +118,17 @@ sum_into way (e ∷ entries) fields size apart each =
     ]
 
 -- what is sent of a packet's fields
-residue_room : (rule : RuleData) (iids : Iids) (way : Direction) (fields : List FieldValue) (computed : Computed) → IsAdmitted rule → IsSized rule way fields → Matches rule iids way fields computed → length (residue_of rule way fields) ≤ sum_by cost fields
-residue_room rule iids way fields computed admitted sized m =
+residue_room : (rule : RuleData) (iids : Iids) (direction : Direction) (fields : List FieldValue) (computed : Computed) → IsAdmitted rule → IsSized rule direction fields → Matches rule iids direction fields computed → length (residue_of rule direction fields) ≤ sum_by cost fields
+residue_room rule iids direction fields computed admitted sized m =
     let size : EntryData → ℕ = λ e. length (entry_residue e (value_of fields (field_of e))) in
     omega (
       arith,
-      length-flat_map (λ e. entry_residue e (value_of fields (field_of e))) (covered rule way),
-      sum_into way rule.entries fields size (AreApart-from_IsAdmitted rule admitted)
+      length-flat_map (λ e. entry_residue e (value_of fields (field_of e))) (covered rule direction),
+      sum_into direction rule.entries fields size (AreApart-from_IsAdmitted rule admitted)
           (λ e among.
           let f = m.same_set.each_entry e among in
           let own : value_of fields (field_of e) ≡ f.0.value = ap (value_of fields) f.2 ∙ value_of-own fields f.0 sized.each_once f.1 in
-          let passes = passes_at rule way admitted e among in
+          let passes = passes_at rule direction admitted e among in
           let bound : length (entry_residue e f.0.value) ≤ room e.name f.0.value =
           entry-bound (stack_of rule) e f.0.value passes.kind passes.pair passes.count passes.lengths (m.agrees f.0 e f.1 among f.2).operator_holds
           in
@@ -156,20 +156,20 @@ sum_widths values (name ∷ names) wide h =
     let parts = and_parts (is_below_coap name) (list_all is_below_coap names) h in
     omega (arith, below_room name (values name) parts.0, wide.0, sum_widths values names wide.1 parts.1, sum_cons cost (with_bits values name) (map (with_bits values) names), sum_cons bits_of name names)
 
-header_bits : (of : Stack) (way : Direction) → IsWithoutCoap of → sum_by bits_of (fields_in_packet_order of way) ≡ 8 * header_size of
+header_bits : (of : Stack) (direction : Direction) → IsWithoutCoap of → sum_by bits_of (fields_in_packet_order of direction) ≡ 8 * header_size of
 header_bits stack.Ip Up h = refl
 header_bits stack.Ip Down h = refl
 header_bits stack.IpUdp Up h = refl
 header_bits stack.IpUdp Down h = refl
-header_bits stack.IpUdpCoap way h = absurd h
+header_bits stack.IpUdpCoap direction h = absurd h
 
-header_room : (of : Stack) (way : Direction) (packet : List ℕ) (fields : List FieldValue) (from : ℕ) → IsWithoutCoap of → FieldsOf of way packet fields from → sum_by cost fields ≡ 8 * header_size of
+header_room : (of : Stack) (direction : Direction) (packet : List ℕ) (fields : List FieldValue) (from : ℕ) → IsWithoutCoap of → FieldsOf of direction packet fields from → sum_by cost fields ≡ 8 * header_size of
 unfolding fields_in
-header_room of way packet fields from h p =
+header_room of direction packet fields from h p =
     ap (sum_by cost) p.its_fields
-    ∙ sum_widths (field_bits way packet) (fields_in_packet_order of way)
-    (lengths of way packet (fields_in_packet_order of way) (header_size-is_packet of packet p.is_packet) (fields_in_packet_order-within of way h)) (names-below of way h)
-    ∙ header_bits of way h
+    ∙ sum_widths (field_bits direction packet) (fields_in_packet_order of direction)
+    (lengths of direction packet (fields_in_packet_order of direction) (header_size-is_packet of packet p.is_packet) (fields_in_packet_order-within of direction h)) (names-below of direction h)
+    ∙ header_bits of direction h
 
 -- an option, and how many of its bits are beyond those that it has in the packet
 record IsBounded (size bytes : ℕ) : Type 0 where
@@ -265,25 +265,25 @@ pub record IsShort (packet : List ℕ) (bits : ℕ) : Type 0 where
   pub bound : bits ≤ 8 * length packet + 12 * long
   pub few : 257 * long ≤ length packet
 
-plain_short : (of : Stack) (way : Direction) (packet : List ℕ) (fields : List FieldValue) (from size : ℕ) → IsWithoutCoap of → FieldsOf of way packet fields from → size ≤ sum_by cost fields → IsShort packet (size + 8 * length (drop from packet))
-plain_short of way packet fields from size h p s =
+plain_short : (of : Stack) (direction : Direction) (packet : List ℕ) (fields : List FieldValue) (from size : ℕ) → IsWithoutCoap of → FieldsOf of direction packet fields from → size ≤ sum_by cost fields → IsShort packet (size + 8 * length (drop from packet))
+plain_short of direction packet fields from size h p s =
     record {
       long = 0;
-      bound = omega (arith, s, header_room of way packet fields from h p, length-drop from packet, p.its_payload, header_size-is_packet of packet p.is_packet);
+      bound = omega (arith, s, header_room of direction packet fields from h p, length-drop from packet, p.its_payload, header_size-is_packet of packet p.is_packet);
       few = omega arith;
     }
 
-coap_short : (way : Direction) (packet : List ℕ) (fields : List FieldValue) (from size : ℕ) → IsCoapPacket way packet fields from → size ≤ sum_by cost fields → IsShort packet (size + 8 * length (drop from packet))
-coap_short way packet fields from size p s =
+coap_short : (direction : Direction) (packet : List ℕ) (fields : List FieldValue) (from size : ℕ) → IsCoapPacket direction packet fields from → size ≤ sum_by cost fields → IsShort packet (size + 8 * length (drop from packet))
+coap_short direction packet fields from size p s =
     let m : Message = p.its_message.message in
     let own = message_bounded m in
     let spelling : length (drop 48 packet) ≡ length (spelled m) = ap (λ (b : List ℕ). length b) p.its_message.its_spelling in
-    let heads : sum_by cost (fields_in stack.IpUdp way packet) ≡ 8 * 48 =
-    header_room stack.IpUdp way packet (fields_in stack.IpUdp way packet) 48 tt (record { is_packet = p.is_udp; its_fields = refl; its_payload = refl })
+    let heads : sum_by cost (fields_in stack.IpUdp direction packet) ≡ 8 * 48 =
+    header_room stack.IpUdp direction packet (fields_in stack.IpUdp direction packet) 48 tt (record { is_packet = p.is_udp; its_fields = refl; its_payload = refl })
     in
-    let sums : sum_by cost fields ≡ sum_by cost (fields_in stack.IpUdp way packet) + sum_by cost (fields_of_message m) =
-    ap (sum_by cost) (p.its_fields ∙ ap (λ (fs : List FieldValue). fields_in stack.IpUdp way packet ++ fs) p.its_message.its_fields)
-    ∙ sum_by-append cost (fields_in stack.IpUdp way packet) (fields_of_message m)
+    let sums : sum_by cost fields ≡ sum_by cost (fields_in stack.IpUdp direction packet) + sum_by cost (fields_of_message m) =
+    ap (sum_by cost) (p.its_fields ∙ ap (λ (fs : List FieldValue). fields_in stack.IpUdp direction packet ++ fs) p.its_message.its_fields)
+    ∙ sum_by-append cost (fields_in stack.IpUdp direction packet) (fields_of_message m)
     in
     record {
       long = own.long;
@@ -292,13 +292,13 @@ coap_short way packet fields from size p s =
     }
 
 -- what is sent of a packet that an admitted rule matches
-pub residue-short : (rule : RuleData) (iids : Iids) (way : Direction) (packet : List ℕ) (fields : List FieldValue) (from : ℕ) (computed : Computed) → IsAdmitted rule → PacketOf (stack_of rule) way packet fields from → Matches rule iids way fields computed → IsShort packet (length (residue_of rule way fields) + 8 * length (drop from packet))
-residue-short rule iids way packet fields from computed admitted p m =
-    let room : length (residue_of rule way fields) ≤ sum_by cost fields =
-    residue_room rule iids way fields computed admitted (sized-packet rule iids way (stack_of rule) packet fields from computed admitted p m) m
+pub residue-short : (rule : RuleData) (iids : Iids) (direction : Direction) (packet : List ℕ) (fields : List FieldValue) (from : ℕ) (computed : Computed) → IsAdmitted rule → PacketOf (stack_of rule) direction packet fields from → Matches rule iids direction fields computed → IsShort packet (length (residue_of rule direction fields) + 8 * length (drop from packet))
+residue-short rule iids direction packet fields from computed admitted p m =
+    let room : length (residue_of rule direction fields) ≤ sum_by cost fields =
+    residue_room rule iids direction fields computed admitted (sized-packet rule iids direction (stack_of rule) packet fields from computed admitted p m) m
     in
     elim (stack-cases (stack_of rule)) [
       | inl without ↦
-          plain_short (stack_of rule) way packet fields from (length (residue_of rule way fields)) without (PacketOf-fields (stack_of rule) way packet fields from without p) room
-      | inr s ↦ coap_short way packet fields from (length (residue_of rule way fields)) (subst (λ (of : Stack). PacketOf of way packet fields from) s p) room
+          plain_short (stack_of rule) direction packet fields from (length (residue_of rule direction fields)) without (PacketOf-fields (stack_of rule) direction packet fields from without p) room
+      | inr s ↦ coap_short direction packet fields from (length (residue_of rule direction fields)) (subst (λ (of : Stack). PacketOf of direction packet fields from) s p) room
     ]

@@ -8,8 +8,8 @@ use Rattle.rule_model.proofs.SizedLemmas.{Contains-first, Contains-rest}
 use Rattle.editions.specs.declared.listed.Listed.{Listed}
 use Rattle.editions.specs.Data.{IsAscending, lookup}
 use Rattle.packer.specs.declared.choosing.Candidate.{Candidate}
-use Rattle.packer.specs.Packing.{FormData, form_by, candidate_of, smaller, smallest_of, candidate_by, candidate_under, shortest}
-use Rattle.packer.specs.Searching.{IsFirstForm}
+use Rattle.packer.specs.Packing.{SchcPacketData, schc_packet_by, candidate_of, smaller, smallest_of, candidate_by, candidate_under, shortest}
+use Rattle.packer.specs.Searching.{IsFirstSchcPacket}
 use Rattle.packer.proofs.CoverLemmas.{Contains-map}
 use Rattle.packer.proofs.PacketFieldsLemmas.{Contains-unmap}
 use Rattle.packer.proofs.FirstLemmas.{smallest-is, smallest-one}
@@ -24,71 +24,71 @@ id_of listed = listed.rule.id
 abbrev AreFound : List Listed → List Listed → Type 0
 AreFound rules part = (listed : Listed) → Contains part listed → lookup rules listed.rule.id ≡ Some listed
 
-shortest-candidate : (rules : List Listed) (iids : Iids) (way : Direction) (packet : List ℕ) (part : List Listed) → AreFound rules part → option_map candidate_of (shortest iids way packet part) ≡ smallest_of (candidate_under rules iids way packet) (map id_of part)
-shortest-candidate rules iids way packet [] found = refl
-shortest-candidate rules iids way packet (listed ∷ part) found =
-    shorter-candidate (form_by iids way packet listed) (shortest iids way packet part)
-    ∙ ap (λ rest. smaller (option_map candidate_of (form_by iids way packet listed)) rest)
-    (shortest-candidate rules iids way packet part (λ other among. found other (Contains-rest listed part other among)))
-    ∙ ap (λ o. smaller (candidate_by iids way packet o) (smallest_of (candidate_under rules iids way packet) (map id_of part))) (sym (found listed (Contains-first listed part)))
+shortest-candidate : (rules : List Listed) (iids : Iids) (direction : Direction) (packet : List ℕ) (part : List Listed) → AreFound rules part → option_map candidate_of (shortest iids direction packet part) ≡ smallest_of (candidate_under rules iids direction packet) (map id_of part)
+shortest-candidate rules iids direction packet [] found = refl
+shortest-candidate rules iids direction packet (listed ∷ part) found =
+    shorter-candidate (schc_packet_by iids direction packet listed) (shortest iids direction packet part)
+    ∙ ap (λ rest. smaller (option_map candidate_of (schc_packet_by iids direction packet listed)) rest)
+    (shortest-candidate rules iids direction packet part (λ other among. found other (Contains-rest listed part other among)))
+    ∙ ap (λ o. smaller (candidate_by iids direction packet o) (smallest_of (candidate_under rules iids direction packet) (map id_of part))) (sym (found listed (Contains-first listed part)))
 
 -- a candidate is of a listed rule that has a form
-record IsListed (rules : List Listed) (iids : Iids) (way : Direction) (packet : List ℕ) (id : ℕ) (c : Candidate) : Type 0 where
+record IsListed (rules : List Listed) (iids : Iids) (direction : Direction) (packet : List ℕ) (id : ℕ) (c : Candidate) : Type 0 where
   listed : Listed
   found : lookup rules id ≡ Some listed
-  form : FormData
-  has_form : form_by iids way packet listed ≡ Some form
-  is : candidate_of form ≡ c
+  schc_packet : SchcPacketData
+  has_schc_packet : schc_packet_by iids direction packet listed ≡ Some schc_packet
+  is : candidate_of schc_packet ≡ c
 
-form_at : (iids : Iids) (way : Direction) (packet : List ℕ) (rules : List Listed) (id : ℕ) (c : Candidate) (listed : Listed) (o : Option FormData) → lookup rules id ≡ Some listed → form_by iids way packet listed ≡ o → option_map candidate_of o ≡ Some c → IsListed rules iids way packet id c
-form_at iids way packet rules id c listed None found e is = absurd (cc)
-form_at iids way packet rules id c listed (Some form) found e is = record { listed = listed; found = found; form = form; has_form = e; is = cc }
+form_at : (iids : Iids) (direction : Direction) (packet : List ℕ) (rules : List Listed) (id : ℕ) (c : Candidate) (listed : Listed) (o : Option SchcPacketData) → lookup rules id ≡ Some listed → schc_packet_by iids direction packet listed ≡ o → option_map candidate_of o ≡ Some c → IsListed rules iids direction packet id c
+form_at iids direction packet rules id c listed None found e is = absurd (cc)
+form_at iids direction packet rules id c listed (Some schc_packet) found e is = record { listed = listed; found = found; schc_packet = schc_packet; has_schc_packet = e; is = cc }
 
-listed_at : (iids : Iids) (way : Direction) (packet : List ℕ) (rules : List Listed) (id : ℕ) (c : Candidate) (o : Option Listed) → lookup rules id ≡ o → candidate_by iids way packet o ≡ Some c → IsListed rules iids way packet id c
-listed_at iids way packet rules id c None found is = absurd (cc)
-listed_at iids way packet rules id c (Some listed) found is =
-    form_at iids way packet rules id c listed (form_by iids way packet listed) found refl is
+listed_at : (iids : Iids) (direction : Direction) (packet : List ℕ) (rules : List Listed) (id : ℕ) (c : Candidate) (o : Option Listed) → lookup rules id ≡ o → candidate_by iids direction packet o ≡ Some c → IsListed rules iids direction packet id c
+listed_at iids direction packet rules id c None found is = absurd (cc)
+listed_at iids direction packet rules id c (Some listed) found is =
+    form_at iids direction packet rules id c listed (schc_packet_by iids direction packet listed) found refl is
 
 -- no rule with a form is left out
 abbrev pub LeavesNoneOut : List Listed → Iids → Direction → List ℕ → List ℕ → Type 0
-LeavesNoneOut rules iids way packet ids =
-    (listed : Listed) (form : FormData) → Contains rules listed → form_by iids way packet listed ≡ Some form → Contains ids listed.rule.id
+LeavesNoneOut rules iids direction packet ids =
+    (listed : Listed) (schc_packet : SchcPacketData) → Contains rules listed → schc_packet_by iids direction packet listed ≡ Some schc_packet → Contains ids listed.rule.id
 
-pub smallest-shortest : (rules : List Listed) (iids : Iids) (way : Direction) (packet : List ℕ) (ids : List ℕ) → IsAscending rules → LeavesNoneOut rules iids way packet ids → smallest_of (candidate_under rules iids way packet) ids ≡ option_map candidate_of (shortest iids way packet rules)
-smallest-shortest rules iids way packet ids rising none =
-    let f : ℕ → Option Candidate = candidate_under rules iids way packet in
+pub smallest-shortest : (rules : List Listed) (iids : Iids) (direction : Direction) (packet : List ℕ) (ids : List ℕ) → IsAscending rules → LeavesNoneOut rules iids direction packet ids → smallest_of (candidate_under rules iids direction packet) ids ≡ option_map candidate_of (shortest iids direction packet rules)
+smallest-shortest rules iids direction packet ids rising none =
+    let f : ℕ → Option Candidate = candidate_under rules iids direction packet in
     smallest-one f ids (map id_of rules) (smallest_of f ids) (smallest_of f (map id_of rules))
     (λ id c among is.
-    let own = listed_at iids way packet rules id c (lookup rules id) refl is in
+    let own = listed_at iids direction packet rules id c (lookup rules id) refl is in
     let there = found-listed rules id own.listed own.found in
     subst (Contains (map id_of rules)) there.1 (Contains-map id_of rules own.listed there.0))
     (λ id c among is.
-    let own = listed_at iids way packet rules id c (lookup rules id) refl is in
+    let own = listed_at iids direction packet rules id c (lookup rules id) refl is in
     let there = found-listed rules id own.listed own.found in
-    subst (Contains ids) there.1 (none own.listed own.form there.0 own.has_form))
+    subst (Contains ids) there.1 (none own.listed own.schc_packet there.0 own.has_schc_packet))
     (smallest-is f ids) (smallest-is f (map id_of rules))
-    ∙ sym (shortest-candidate rules iids way packet rules (λ listed among. listed-found rules listed rising among))
+    ∙ sym (shortest-candidate rules iids direction packet rules (λ listed among. listed-found rules listed rising among))
 
 -- the rule of the candidate that comes first, and its form
-first_of : (rules : List Listed) (iids : Iids) (way : Direction) (packet : List ℕ) (c : Candidate) (o : Option FormData) → IsAscending rules → shortest iids way packet rules ≡ o → option_map candidate_of o ≡ Some c → IsFirstForm rules iids way packet c.rule_id
-first_of rules iids way packet c None rising e is = absurd (cc)
-first_of rules iids way packet c (Some form) rising e is =
-    let least : IsShortest iids way packet rules form = shortest-least iids way packet rules form e in
-    let same : candidate_of form ≡ c = cc in
-    let id : least.listed.rule.id ≡ c.rule_id = sym (form-id iids way packet least.listed form least.form) ∙ ap (λ (d : Candidate). d.rule_id) same in
+first_of : (rules : List Listed) (iids : Iids) (direction : Direction) (packet : List ℕ) (c : Candidate) (o : Option SchcPacketData) → IsAscending rules → shortest iids direction packet rules ≡ o → option_map candidate_of o ≡ Some c → IsFirstSchcPacket rules iids direction packet c.rule_id
+first_of rules iids direction packet c None rising e is = absurd (cc)
+first_of rules iids direction packet c (Some schc_packet) rising e is =
+    let least : IsShortest iids direction packet rules schc_packet = shortest-least iids direction packet rules schc_packet e in
+    let same : candidate_of schc_packet ≡ c = cc in
+    let id : least.listed.rule.id ≡ c.rule_id = sym (form-id iids direction packet least.listed schc_packet least.schc_packet) ∙ ap (λ (d : Candidate). d.rule_id) same in
     record {
       listed = least.listed;
       among = least.among;
       found = ap (lookup rules) (sym id) ∙ listed-found rules least.listed rising least.among;
-      form = form;
-      has_form = least.form;
+      schc_packet = schc_packet;
+      has_schc_packet = least.schc_packet;
       is_shortest = e;
     }
 
-pub first-form : (rules : List Listed) (iids : Iids) (way : Direction) (packet : List ℕ) (c : Candidate) → IsAscending rules → option_map candidate_of (shortest iids way packet rules) ≡ Some c → IsFirstForm rules iids way packet c.rule_id
-first-form rules iids way packet c rising is = first_of rules iids way packet c (shortest iids way packet rules) rising refl is
+pub first-form : (rules : List Listed) (iids : Iids) (direction : Direction) (packet : List ℕ) (c : Candidate) → IsAscending rules → option_map candidate_of (shortest iids direction packet rules) ≡ Some c → IsFirstSchcPacket rules iids direction packet c.rule_id
+first-form rules iids direction packet c rising is = first_of rules iids direction packet c (shortest iids direction packet rules) rising refl is
 
 -- and where there is none, there is no form
-pub none-form : (o : Option FormData) → option_map candidate_of o ≡ None → o ≡ None
+pub none-form : (o : Option SchcPacketData) → option_map candidate_of o ≡ None → o ≡ None
 none-form None e = refl
-none-form (Some form) e = absurd (cc)
+none-form (Some schc_packet) e = absurd (cc)

@@ -1,8 +1,8 @@
 -- The checksum made anew.
-use Rattle.std.specs.Prelude.{ℕ, ◌≡◌, ◌+◌, ◌/◌, ◌%◌, ◌≤◌, zero, suc, Bool, if◌then◌else◌, List, [], ◌∷◌, ◌++◌, length, take, drop}
+use Rattle.std.specs.Prelude.{ℕ, ◌≡◌, ◌+◌, ◌/◌, ◌%◌, ◌<◌, ◌≤◌, zero, suc, Bool, if◌then◌else◌, List, [], ◌∷◌, ◌++◌, length, take, drop, slice_set}
 use Rattle.std.proofs.Common.{arith, ap, refl, sym, ◌∙◌}
 use Rattle.std.proofs.lemmas.List.{append_assoc, append-nil, length-append, length-take-le, length-drop, take_at, drop_at}
-use Rattle.std.proofs.lemmas.List.{drop-take, take-take}
+use Rattle.std.proofs.lemmas.List.{drop-take, take-take, set_split, take_more_set, drop-set-lt, length-set}
 use Rattle.schc_bits.specs.Bits.{number_bits, octets, padded, bytes_of, AreBytes}
 use Rattle.schc_bits.proofs.NumberBits.{length-number_bits, number_bits-mod, number_bits-two_bytes}
 use Rattle.schc_bits.proofs.Octets.{octets-append, take-octets, octets-bytes_of-padded, padded-whole, octets-injective}
@@ -17,7 +17,7 @@ use Rattle.ip_udp_fields.specs.Layout.{mirrored, bits_of}
 use Rattle.ip_udp_fields.specs.Checksum.{checksum_of}
 use Rattle.ip_udp_fields.specs.Join.{value_of, values_in, header_bits}
 use Rattle.ip_udp_fields.proofs.SpanLemmas.{span-headers, HaveWidths, length-values_in, mirror}
-use Rattle.packer.specs.Unpacking.{two_bytes, with_checksum, joined}
+use Rattle.packer.specs.Unpacking.{two_bytes, with_checksum, headers_and_payload}
 use Rattle.packer.proofs.JoinedLemmas.{listed, AreWide, AreBytes-joined}
 
 -- the same values, but for the checksum
@@ -28,60 +28,60 @@ summed checksum values name = if same_name name UdpChecksum then number_bits 16 
 abbrev pub front_names : List FieldName
 front_names = ip_fields ++ UdpDevPort ∷ UdpAppPort ∷ UdpLength ∷ []
 
-values_in-append : (way : Direction) (fields : List FieldValue) (front back : List FieldName) → values_in way fields (front ++ back) ≡ values_in way fields front ++ values_in way fields back
-values_in-append way fields [] back = refl
-values_in-append way fields (name ∷ front) back =
-    ap (λ (bits : List Bool). value_of fields (mirrored way name) ++ bits) (values_in-append way fields front back)
-    ∙ sym (append_assoc (value_of fields (mirrored way name)) (values_in way fields front) (values_in way fields back))
+values_in-append : (direction : Direction) (fields : List FieldValue) (front back : List FieldName) → values_in direction fields (front ++ back) ≡ values_in direction fields front ++ values_in direction fields back
+values_in-append direction fields [] back = refl
+values_in-append direction fields (name ∷ front) back =
+    ap (λ (bits : List Bool). value_of fields (mirrored direction name) ++ bits) (values_in-append direction fields front back)
+    ∙ sym (append_assoc (value_of fields (mirrored direction name)) (values_in direction fields front) (values_in direction fields back))
 
 -- the checksum stands last
-last_value : (way : Direction) (values : FieldName → List Bool) → values_in way (listed stack.IpUdp way values) (UdpChecksum ∷ []) ≡ values UdpChecksum
+last_value : (direction : Direction) (values : FieldName → List Bool) → values_in direction (listed stack.IpUdp direction values) (UdpChecksum ∷ []) ≡ values UdpChecksum
 last_value Up values = append-nil (values UdpChecksum)
 last_value Down values = append-nil (values UdpChecksum)
 
-pub values-split : (way : Direction) (values : FieldName → List Bool) → values_in way (listed stack.IpUdp way values) (fields_of_stack stack.IpUdp) ≡ values_in way (listed stack.IpUdp way values) front_names ++ values UdpChecksum
-values-split way values =
-    values_in-append way (listed stack.IpUdp way values) front_names (UdpChecksum ∷ [])
-    ∙ ap (λ (bits : List Bool). values_in way (listed stack.IpUdp way values) front_names ++ bits) (last_value way values)
+pub values-split : (direction : Direction) (values : FieldName → List Bool) → values_in direction (listed stack.IpUdp direction values) (fields_of_stack stack.IpUdp) ≡ values_in direction (listed stack.IpUdp direction values) front_names ++ values UdpChecksum
+values-split direction values =
+    values_in-append direction (listed stack.IpUdp direction values) front_names (UdpChecksum ∷ [])
+    ∙ ap (λ (bits : List Bool). values_in direction (listed stack.IpUdp direction values) front_names ++ bits) (last_value direction values)
 
-pub front-same : (way : Direction) (checksum : ℕ) (values : FieldName → List Bool) → values_in way (listed stack.IpUdp way (summed checksum values)) front_names ≡ values_in way (listed stack.IpUdp way values) front_names
+pub front-same : (direction : Direction) (checksum : ℕ) (values : FieldName → List Bool) → values_in direction (listed stack.IpUdp direction (summed checksum values)) front_names ≡ values_in direction (listed stack.IpUdp direction values) front_names
 front-same Up checksum values = refl
 front-same Down checksum values = refl
 
-listed_widths : (way : Direction) (values : FieldName → List Bool) → AreWide stack.IpUdp values → HaveWidths way (listed stack.IpUdp way values) (fields_of_stack stack.IpUdp)
+listed_widths : (direction : Direction) (values : FieldName → List Bool) → AreWide stack.IpUdp values → HaveWidths direction (listed stack.IpUdp direction values) (fields_of_stack stack.IpUdp)
 listed_widths Up values w = mirror (λ n. length (value_of (listed stack.IpUdp Up values) n) ≡ bits_of n) stack.IpUdp Up tt w
 listed_widths Down values w = mirror (λ n. length (value_of (listed stack.IpUdp Down values) n) ≡ bits_of n) stack.IpUdp Down tt w
 
 checksum_width : (values : FieldName → List Bool) → AreWide stack.IpUdp values → length (values UdpChecksum) ≡ 16
 checksum_width values w = w.1.1.1.1.1.1.1.1.1.1.1.1.1.0
 
-headers_length : (way : Direction) (values : FieldName → List Bool) → AreWide stack.IpUdp values → length (values_in way (listed stack.IpUdp way values) (fields_of_stack stack.IpUdp)) ≡ 384
-headers_length way values w =
-    omega (arith, length-values_in way (listed stack.IpUdp way values) (fields_of_stack stack.IpUdp) 0 384 (span-headers stack.IpUdp way tt) (listed_widths way values w))
+headers_length : (direction : Direction) (values : FieldName → List Bool) → AreWide stack.IpUdp values → length (values_in direction (listed stack.IpUdp direction values) (fields_of_stack stack.IpUdp)) ≡ 384
+headers_length direction values w =
+    omega (arith, length-values_in direction (listed stack.IpUdp direction values) (fields_of_stack stack.IpUdp) 0 384 (span-headers stack.IpUdp direction tt) (listed_widths direction values w))
 
-front_length : (way : Direction) (values : FieldName → List Bool) → AreWide stack.IpUdp values → length (values_in way (listed stack.IpUdp way values) front_names) ≡ 368
-front_length way values w =
-    let whole : length (values_in way (listed stack.IpUdp way values) front_names ++ values UdpChecksum) ≡ 384 =
-    ap (λ (bits : List Bool). length bits) (sym (values-split way values)) ∙ headers_length way values w
+front_length : (direction : Direction) (values : FieldName → List Bool) → AreWide stack.IpUdp values → length (values_in direction (listed stack.IpUdp direction values) front_names) ≡ 368
+front_length direction values w =
+    let whole : length (values_in direction (listed stack.IpUdp direction values) front_names ++ values UdpChecksum) ≡ 384 =
+    ap (λ (bits : List Bool). length bits) (sym (values-split direction values)) ∙ headers_length direction values w
     in
-    omega (arith, length-append (values_in way (listed stack.IpUdp way values) front_names) (values UdpChecksum), whole, checksum_width values w)
+    omega (arith, length-append (values_in direction (listed stack.IpUdp direction values) front_names) (values UdpChecksum), whole, checksum_width values w)
 
 -- the bits of the packet
-joined_bits : (way : Direction) (values : FieldName → List Bool) (payload : List ℕ) → AreWide stack.IpUdp values → octets (joined stack.IpUdp way (listed stack.IpUdp way values) payload) ≡ values_in way (listed stack.IpUdp way values) front_names ++ (values UdpChecksum ++ octets payload)
-unfolding joined header_bits
-joined_bits way values payload w =
-    let bits : List Bool = values_in way (listed stack.IpUdp way values) (fields_of_stack stack.IpUdp) in
-    let whole : length bits % 8 ≡ 0 = omega (arith, headers_length way values w) in
+joined_bits : (direction : Direction) (values : FieldName → List Bool) (payload : List ℕ) → AreWide stack.IpUdp values → octets (headers_and_payload stack.IpUdp direction (listed stack.IpUdp direction values) payload) ≡ values_in direction (listed stack.IpUdp direction values) front_names ++ (values UdpChecksum ++ octets payload)
+unfolding headers_and_payload header_bits
+joined_bits direction values payload w =
+    let bits : List Bool = values_in direction (listed stack.IpUdp direction values) (fields_of_stack stack.IpUdp) in
+    let whole : length bits % 8 ≡ 0 = omega (arith, headers_length direction values w) in
     octets-append (bytes_of (padded bits)) payload
-    ∙ ap (λ (x : List Bool). x ++ octets payload) (octets-bytes_of-padded bits ∙ padded-whole bits whole ∙ values-split way values)
-    ∙ append_assoc (values_in way (listed stack.IpUdp way values) front_names) (values UdpChecksum) (octets payload)
+    ∙ ap (λ (x : List Bool). x ++ octets payload) (octets-bytes_of-padded bits ∙ padded-whole bits whole ∙ values-split direction values)
+    ∙ append_assoc (values_in direction (listed stack.IpUdp direction values) front_names) (values UdpChecksum) (octets payload)
 
 -- the bytes before the checksum
-pub front-listed : (way : Direction) (values : FieldName → List Bool) (payload : List ℕ) → AreWide stack.IpUdp values → octets (take 46 (joined stack.IpUdp way (listed stack.IpUdp way values) payload)) ≡ values_in way (listed stack.IpUdp way values) front_names
-front-listed way values payload w =
-    sym (take-octets 46 (joined stack.IpUdp way (listed stack.IpUdp way values) payload))
-    ∙ ap (λ (bits : List Bool). take 368 bits) (joined_bits way values payload w)
-    ∙ take_at (values_in way (listed stack.IpUdp way values) front_names) (values UdpChecksum ++ octets payload) 368 (front_length way values w)
+pub front-listed : (direction : Direction) (values : FieldName → List Bool) (payload : List ℕ) → AreWide stack.IpUdp values → octets (take 46 (headers_and_payload stack.IpUdp direction (listed stack.IpUdp direction values) payload)) ≡ values_in direction (listed stack.IpUdp direction values) front_names
+front-listed direction values payload w =
+    sym (take-octets 46 (headers_and_payload stack.IpUdp direction (listed stack.IpUdp direction values) payload))
+    ∙ ap (λ (bits : List Bool). take 368 bits) (joined_bits direction values payload w)
+    ∙ take_at (values_in direction (listed stack.IpUdp direction values) front_names) (values UdpChecksum ++ octets payload) 368 (front_length direction values w)
 
 two_bytes_bits : (number : ℕ) → octets (two_bytes number) ≡ number_bits 16 number
 two_bytes_bits number =
@@ -113,15 +113,15 @@ summed_wide checksum values (a, (b, (c, (d, (e, (f, (g, (h, (i, (j, (k, (l, (m, 
     (a, (b, (c, (d, (e, (f, (g, (h, (i, (j, (k, (l, (m, (length-number_bits 16 checksum, tt))))))))))))))
 
 -- put into the bytes, the checksum is put into the fields
-pub with_checksum-listed : (way : Direction) (values : FieldName → List Bool) (payload : List ℕ) → AreWide stack.IpUdp values → AreBytes payload → drop 48 (joined stack.IpUdp way (listed stack.IpUdp way values) payload) ≡ payload → with_checksum (joined stack.IpUdp way (listed stack.IpUdp way values) payload) ≡ joined stack.IpUdp way (listed stack.IpUdp way (summed (checksum_of (joined stack.IpUdp way (listed stack.IpUdp way values) payload)) values)) payload
+pub with_checksum-listed : (direction : Direction) (values : FieldName → List Bool) (payload : List ℕ) → AreWide stack.IpUdp values → AreBytes payload → drop 48 (headers_and_payload stack.IpUdp direction (listed stack.IpUdp direction values) payload) ≡ payload → with_checksum (headers_and_payload stack.IpUdp direction (listed stack.IpUdp direction values) payload) ≡ headers_and_payload stack.IpUdp direction (listed stack.IpUdp direction (summed (checksum_of (headers_and_payload stack.IpUdp direction (listed stack.IpUdp direction values) payload)) values)) payload
 unfolding with_checksum
-with_checksum-listed way values payload w b rest =
-    let packet : List ℕ = joined stack.IpUdp way (listed stack.IpUdp way values) payload in
+with_checksum-listed direction values payload w b rest =
+    let packet : List ℕ = headers_and_payload stack.IpUdp direction (listed stack.IpUdp direction values) payload in
     let checksum : ℕ = checksum_of packet in
-    let front : List Bool = values_in way (listed stack.IpUdp way values) front_names in
+    let front : List Bool = values_in direction (listed stack.IpUdp direction values) front_names in
     let new : FieldName → List Bool = summed checksum values in
     let new_wide : AreWide stack.IpUdp new = summed_wide checksum values w in
-    let taken : octets (take 46 packet) ≡ front = front-listed way values payload w in
+    let taken : octets (take 46 packet) ≡ front = front-listed direction values payload w in
     let written : octets (take 46 packet ++ (two_bytes checksum ++ drop 48 packet)) ≡ front ++ (number_bits 16 checksum ++ octets payload) =
     octets-append (take 46 packet) (two_bytes checksum ++ drop 48 packet)
     ∙ ap (λ (bits : List Bool). bits ++ octets (two_bytes checksum ++ drop 48 packet)) taken
@@ -130,11 +130,11 @@ with_checksum-listed way values payload w b rest =
     ∙ ap (λ (bits : List Bool). bits ++ octets (drop 48 packet)) (two_bytes_bits checksum)
     ∙ ap (λ (bytes : List ℕ). number_bits 16 checksum ++ octets bytes) rest)
     in
-    let made : octets (joined stack.IpUdp way (listed stack.IpUdp way new) payload) ≡ front ++ (number_bits 16 checksum ++ octets payload) =
-    joined_bits way new payload new_wide ∙ ap (λ (bits : List Bool). bits ++ (number_bits 16 checksum ++ octets payload)) (front-same way checksum values)
+    let made : octets (headers_and_payload stack.IpUdp direction (listed stack.IpUdp direction new) payload) ≡ front ++ (number_bits 16 checksum ++ octets payload) =
+    joined_bits direction new payload new_wide ∙ ap (λ (bits : List Bool). bits ++ (number_bits 16 checksum ++ octets payload)) (front-same direction checksum values)
     in
-    octets-injective (take 46 packet ++ (two_bytes checksum ++ drop 48 packet)) (joined stack.IpUdp way (listed stack.IpUdp way new) payload)
-    (AreBytes-with_checksum packet (AreBytes-joined stack.IpUdp way (listed stack.IpUdp way values) payload b)) (AreBytes-joined stack.IpUdp way (listed stack.IpUdp way new) payload b) (written ∙ sym made)
+    octets-injective (take 46 packet ++ (two_bytes checksum ++ drop 48 packet)) (headers_and_payload stack.IpUdp direction (listed stack.IpUdp direction new) payload)
+    (AreBytes-with_checksum packet (AreBytes-joined stack.IpUdp direction (listed stack.IpUdp direction values) payload b)) (AreBytes-joined stack.IpUdp direction (listed stack.IpUdp direction new) payload b) (written ∙ sym made)
 
 -- a part of the front
 front_part : (place count more : ℕ) (bytes : List ℕ) → take count (drop place bytes) ≡ take count (drop place (take (place + (count + more)) bytes))
@@ -173,3 +173,21 @@ length-with_checksum packet l =
 pub checksum-with_checksum : (packet : List ℕ) → 48 ≤ length packet → checksum_of (with_checksum packet) ≡ checksum_of packet
 checksum-with_checksum packet l =
     checksum-same (with_checksum packet) packet (front-with_checksum packet l) (back-with_checksum packet l) (length-with_checksum packet l)
+
+-- two bytes put in the place of two
+set_two : (packet : List ℕ) (a b : ℕ) → 48 ≤ length packet → slice_set (slice_set packet 46 a) 47 b ≡ take 46 packet ++ (a ∷ b ∷ drop 48 packet)
+set_two packet a b h =
+    let one : List ℕ = slice_set packet 46 a in
+    set_split one 47 b (omega (arith, h, length-set packet 46 a))
+    ∙ ap (λ (front : List ℕ). front ++ b ∷ drop 48 one) (take_more_set packet 46 a (omega (arith, h)))
+    ∙ ap (λ (rest : List ℕ). (take 46 packet ++ a ∷ []) ++ b ∷ rest) (drop-set-lt 48 packet 46 a (omega arith))
+    ∙ append_assoc (take 46 packet) (a ∷ []) (b ∷ drop 48 packet)
+
+-- so the checksum is made anew in its place
+pub put-checksum : (packet one two : List ℕ) (number : ℕ) → one ≡ slice_set packet 46 (number / 256) → two ≡ slice_set one 47 (number % 256) → number ≡ checksum_of packet → number < 65536 → 48 ≤ length packet → two ≡ with_checksum packet
+unfolding with_checksum
+put-checksum packet one two number e f n small h =
+    f ∙ ap (λ (bytes : List ℕ). slice_set bytes 47 (number % 256)) e
+    ∙ set_two packet (number / 256) (number % 256) h
+    ∙ ap (λ high. take 46 packet ++ (high ∷ number % 256 ∷ drop 48 packet)) (let low : number / 256 ≡ number / 256 % 256 = omega (arith, small) in low)
+    ∙ ap (λ n. take 46 packet ++ (two_bytes n ++ drop 48 packet)) n

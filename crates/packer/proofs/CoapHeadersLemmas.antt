@@ -25,6 +25,6 @@ message-none headers Memory read r other = absurd (cc)
 message-none headers (NotCoap place) read r other = ap (with_message headers) (sym r)
 message-none headers _ read r other = absurd r
 
-pub headers-there : (way : Direction) (packet : List ℕ) (headers : SplitData) → FieldsOf stack.IpUdp way packet headers.fields headers.payload_from → split_of stack.IpUdpCoap way packet ≡ with_message headers (message_in (drop 48 packet))
+pub headers-there : (direction : Direction) (packet : List ℕ) (headers : SplitData) → FieldsOf stack.IpUdp direction packet headers.fields headers.payload_from → split_of stack.IpUdpCoap direction packet ≡ with_message headers (message_in (drop 48 packet))
 unfolding split_of
-headers-there way packet headers p = ap (split_message packet) (fields-split_headers stack.IpUdp way packet headers.fields headers.payload_from tt p)
+headers-there direction packet headers p = ap (split_message packet) (fields-split_headers stack.IpUdp direction packet headers.fields headers.payload_from tt p)

@@ -26,6 +26,7 @@ use Rattle.rule_model.specs.First.{first_held}
 use Rattle.rule_model.specs.Matches.{Matches, IsSameSet}
 use Rattle.rule_model.specs.Residue.{value_of, residue_of, restored_value, restored_fields, WidthHolds, IsSized}
 use Rattle.rule_model.specs.Tests.{operator_holds}
+use Rattle.rule_model.proofs.FirstLemmas.{first_held-append_none}
 use Rattle.rule_model.proofs.EntryRowsLemmas.{AreApart, AreApart-from_IsAdmitted}
 use Rattle.decompress.specs.Reading.{restore_at}
 use Rattle.decompress.specs.Stands.{Stands}
@@ -45,14 +46,15 @@ use Rattle.coap_fields.proofs.AgainLemmas.{joins_again as message-joins_again, m
 use Rattle.packer.specs.Packets.{IsCoapPacket, PacketOf, computed_over}
 use Rattle.packer.specs.Schc.{is_computed_checksum, IsRestored}
 use Rattle.packer.specs.Ordering.{message_fields}
-use Rattle.packer.specs.Unpacking.{operator_fault, filled_value, size_after, headers_of, body_of, front_faults, packet_around, packet_of, packet_or, rebuilt, rebuilt_from, fixed_headers, reads}
-use Rattle.packer.specs.Rebuilding.{AreRestored, headed}
+use Rattle.packer.specs.Unpacking.{operator_fault, wrong_field, value_faults, filled_value, size_after, filled_headers, body_of, packet_around, packet_of, packet_or, rebuilt, rebuilt_from, fixed_headers, reads}
+use Rattle.packer.specs.Rebuilding.{AreRestored, packet_behind_headers, front_tests, header_tests, message_tests, made_tests}
 use Rattle.packer.proofs.FirstPartsLemmas.{append-none}
 use Rattle.packer.proofs.AscendLemmas.{AscendsAfter}
 use Rattle.packer.proofs.OrderedLemmas.{message-ascends}
 use Rattle.packer.proofs.SortLemmas.{message-member, member-message, message-ordered}
 use Rattle.packer.proofs.AlikeLemmas.{IsAlike, AreAlike, alike-from, alike-ats, refusals-alike, length-alike}
-use Rattle.packer.proofs.FilledLemmas.{header_faults-none, message_faults-none, rebuilt_made, coap_made}
+use Rattle.packer.proofs.ListedLemmas.{coap-listed-none}
+use Rattle.packer.proofs.FilledLemmas.{header_tests-none, message_tests-none, rebuilt_made, coap_made}
 use Rattle.packer.proofs.CoverLemmas.{each_passes, some_passes, mapped_value, value_in-there}
 use Rattle.packer.proofs.HeaderFieldsLemmas.{is_below_coap, fields-below}
 use Rattle.packer.proofs.HeadersLemmas.{from-within}
@@ -78,19 +80,19 @@ coap_there m name (suc (suc (suc zero)), b, e) = (field CoapCode (number_bits 8 
 coap_there m name (suc (suc (suc (suc zero))), b, e) = (field CoapMid (number_bits 16 m.id), (4, omega arith, refl), e)
 coap_there m name (suc (suc (suc (suc (suc k)))), b, e) = absurd (omega (arith, b))
 
-pub udp-of : (way : Direction) (packet : List ℕ) (fields : List FieldValue) (from : ℕ) → IsCoapPacket way packet fields from → FieldsOf stack.IpUdp way packet (fields_in stack.IpUdp way packet) 48
-udp-of way packet fields from p = record { is_packet = p.is_udp; its_fields = refl; its_payload = refl }
+pub udp-of : (direction : Direction) (packet : List ℕ) (fields : List FieldValue) (from : ℕ) → IsCoapPacket direction packet fields from → FieldsOf stack.IpUdp direction packet (fields_in stack.IpUdp direction packet) 48
+udp-of direction packet fields from p = record { is_packet = p.is_udp; its_fields = refl; its_payload = refl }
 
 -- a field of the headers
-pub head-field : (way : Direction) (packet : List ℕ) (fields : List FieldValue) (from : ℕ) (name : FieldName) → IsCoapPacket way packet fields from → Contains (fields_of_stack stack.IpUdp) name → Contains fields (field_in way packet name)
-head-field way packet fields from name p among =
-    subst (λ (all : List FieldValue). Contains all (field_in way packet name)) (sym p.its_fields)
-    (Contains-append_left (fields_in stack.IpUdp way packet) p.message_fields (field_in way packet name) (field-named stack.IpUdp way packet (fields_in stack.IpUdp way packet) 48 name (udp-of way packet fields from p) among))
+pub head-field : (direction : Direction) (packet : List ℕ) (fields : List FieldValue) (from : ℕ) (name : FieldName) → IsCoapPacket direction packet fields from → Contains (fields_of_stack stack.IpUdp) name → Contains fields (field_in direction packet name)
+head-field direction packet fields from name p among =
+    subst (λ (all : List FieldValue). Contains all (field_in direction packet name)) (sym p.its_fields)
+    (Contains-append_left (fields_in stack.IpUdp direction packet) p.message_fields (field_in direction packet name) (field-named stack.IpUdp direction packet (fields_in stack.IpUdp direction packet) 48 name (udp-of direction packet fields from p) among))
 
 -- a field of the message
-pub message-field : (way : Direction) (packet : List ℕ) (fields : List FieldValue) (from : ℕ) (g : FieldValue) → (p : IsCoapPacket way packet fields from) → Contains p.message_fields g → Contains fields g
-message-field way packet fields from g p among =
-    subst (λ (all : List FieldValue). Contains all g) (sym p.its_fields) (Contains-append_right (fields_in stack.IpUdp way packet) p.message_fields g among)
+pub message-field : (direction : Direction) (packet : List ℕ) (fields : List FieldValue) (from : ℕ) (g : FieldValue) → (p : IsCoapPacket direction packet fields from) → Contains p.message_fields g → Contains fields g
+message-field direction packet fields from g p among =
+    subst (λ (all : List FieldValue). Contains all g) (sym p.its_fields) (Contains-append_right (fields_in stack.IpUdp direction packet) p.message_fields g among)
 
 -- a name that isn't below CoAP
 pub above-coap : (name : FieldName) → is_below_coap name ≡ false → same_layer (layer_of name) layer.Coap ≡ true
@@ -104,34 +106,34 @@ above-coap (CoapOption number) h = refl
 above-coap _ h = absurd (true≢false h)
 
 -- which is one of CoAP
-pub message_coap : (way : Direction) (packet : List ℕ) (fields : List FieldValue) (from : ℕ) (g : FieldValue) → (p : IsCoapPacket way packet fields from) → Contains p.message_fields g → same_layer (layer_of g.at.name) layer.Coap ≡ true
-message_coap way packet fields from g p among =
+pub message_coap : (direction : Direction) (packet : List ℕ) (fields : List FieldValue) (from : ℕ) (g : FieldValue) → (p : IsCoapPacket direction packet fields from) → Contains p.message_fields g → same_layer (layer_of g.at.name) layer.Coap ≡ true
+message_coap direction packet fields from g p among =
     above-coap g.at.name
     (All-contains (λ f. is_below_coap f.at.name ≡ false) p.message_fields g (subst (λ (all : List FieldValue). All (λ f. is_below_coap f.at.name ≡ false) all) (sym p.its_message.its_fields) (message-above p.its_message.message)) among)
 
-has_name : (rule : RuleData) (iids : Iids) (way : Direction) (fields : List FieldValue) (computed : Computed) (name : FieldName) (f : FieldValue) → Matches rule iids way fields computed → Contains fields f → f.at.name ≡ name → has_field rule way name ≡ true
-has_name rule iids way fields computed name f matches among is =
+has_name : (rule : RuleData) (iids : Iids) (direction : Direction) (fields : List FieldValue) (computed : Computed) (name : FieldName) (f : FieldValue) → Matches rule iids direction fields computed → Contains fields f → f.at.name ≡ name → has_field rule direction name ≡ true
+has_name rule iids direction fields computed name f matches among is =
     let e = matches.same_set.each_field f among in
-    some_passes (λ d. same_name d.name name) (covered rule way) e.0 e.1
+    some_passes (λ d. same_name d.name name) (covered rule direction) e.0 e.1
     (subst (λ n. same_name n name ≡ true) (sym (ap (λ (at : FieldAt). at.name) e.2 ∙ is)) (same_name-itself name))
 
 -- a rule that matches a packet with CoAP reads packets of its direction
-pub reads-coap : (rule : RuleData) (iids : Iids) (way : Direction) (packet : List ℕ) (fields : List FieldValue) (from : ℕ) (computed : Computed) → stack_of rule ≡ stack.IpUdpCoap → IsCoapPacket way packet fields from → Matches rule iids way fields computed → reads rule way ≡ true
-reads-coap rule iids way packet fields from computed s p matches =
-    each_passes (has_field rule way) (fields_of_stack (stack_of rule))
+pub reads-coap : (rule : RuleData) (iids : Iids) (direction : Direction) (packet : List ℕ) (fields : List FieldValue) (from : ℕ) (computed : Computed) → stack_of rule ≡ stack.IpUdpCoap → IsCoapPacket direction packet fields from → Matches rule iids direction fields computed → reads rule direction ≡ true
+reads-coap rule iids direction packet fields from computed s p matches =
+    each_passes (has_field rule direction) (fields_of_stack (stack_of rule))
     (λ name among.
     elim (Contains-append_cases (ip_fields ++ udp_fields) coap_fields name (subst (λ (of : Stack). Contains (fields_of_stack of) name) s among)) [
-      | inl head ↦ has_name rule iids way fields computed name (field_in way packet name) matches (head-field way packet fields from name p head) refl
+      | inl head ↦ has_name rule iids direction fields computed name (field_in direction packet name) matches (head-field direction packet fields from name p head) refl
       | inr coap ↦
           let g = coap_there p.its_message.message name coap in
-          has_name rule iids way fields computed name g.0 matches
-          (message-field way packet fields from g.0 p (subst (λ (all : List FieldValue). Contains all g.0) (sym p.its_message.its_fields) g.1)) g.2
+          has_name rule iids direction fields computed name g.0 matches
+          (message-field direction packet fields from g.0 p (subst (λ (all : List FieldValue). Contains all g.0) (sym p.its_message.its_fields) g.1)) g.2
     ])
 
 -- the fields of the headers
-heads_below : (way : Direction) (packet : List ℕ) → All (λ f. is_below_coap f.at.name ≡ true) (fields_in stack.IpUdp way packet)
+heads_below : (direction : Direction) (packet : List ℕ) → All (λ f. is_below_coap f.at.name ≡ true) (fields_in stack.IpUdp direction packet)
 unfolding fields_in
-heads_below way packet = fields-below stack.IpUdp way packet tt
+heads_below direction packet = fields-below stack.IpUdp direction packet tt
 
 coap_not_computed : (name : FieldName) → same_layer (layer_of name) layer.Coap ≡ true → is_computed_by Compute name ≡ false
 coap_not_computed CoapVersion h = refl
@@ -168,12 +170,12 @@ width_one : (o : Option ℕ) (a b : List Bool) → is_some o ≡ true → IfSome
 width_one None a b h x y = absurd (false≢true h)
 width_one (Some width) a b h x y = x ∙ sym y
 
-module _ (rule : RuleData) (iids : Iids) (way : Direction) (packet : List ℕ) (fields : List FieldValue) (from : ℕ) (s : stack_of rule ≡ stack.IpUdpCoap) (admitted : IsAdmitted rule) (p : IsCoapPacket way packet fields from) (matches : Matches rule iids way fields (computed_over (stack_of rule) packet)) where
+module _ (rule : RuleData) (iids : Iids) (direction : Direction) (packet : List ℕ) (fields : List FieldValue) (from : ℕ) (s : stack_of rule ≡ stack.IpUdpCoap) (admitted : IsAdmitted rule) (p : IsCoapPacket direction packet fields from) (matches : Matches rule iids direction fields (computed_over (stack_of rule) packet)) where
   abbrev computed : Computed
   computed = computed_over (stack_of rule) packet
 
   abbrev again : List FieldValue
-  again = restored_fields rule iids way fields
+  again = restored_fields rule iids direction fields
 
   abbrev payload : List ℕ
   payload = drop from packet
@@ -185,62 +187,62 @@ module _ (rule : RuleData) (iids : Iids) (way : Direction) (packet : List ℕ) (
   body = message_from mine payload
 
   abbrev heads_of : List FieldValue
-  heads_of = fields_in stack.IpUdp way packet
+  heads_of = fields_in stack.IpUdp direction packet
 
-  is_packet : PacketOf (stack_of rule) way packet fields from
-  is_packet = subst (λ (of : Stack). PacketOf of way packet fields from) (sym s) p
+  is_packet : PacketOf (stack_of rule) direction packet fields from
+  is_packet = subst (λ (of : Stack). PacketOf of direction packet fields from) (sym s) p
 
-  reading : reads rule way ≡ true
-  reading = reads-coap rule iids way packet fields from computed s p matches
+  reading : reads rule direction ≡ true
+  reading = reads-coap rule iids direction packet fields from computed s p matches
 
   apart : AreApart rule.entries
   apart = AreApart-from_IsAdmitted rule admitted
 
   own_once : AllPairs (λ f g. f.at ≢ g.at) fields
-  own_once = once-coap way packet fields from p
+  own_once = once-coap direction packet fields from p
 
-  sized : IsSized rule way fields
-  sized = sized-packet rule iids way (stack_of rule) packet fields from computed admitted is_packet matches
+  sized : IsSized rule direction fields
+  sized = sized-packet rule iids direction (stack_of rule) packet fields from computed admitted is_packet matches
 
-  restored : (e : EntryData) → Contains (covered rule way) e → value_of again (field_of e) ≡ restored_value iids e (value_of fields (field_of e))
-  restored e among = mapped_value rule way (λ d. restored_value iids d (value_of fields (field_of d))) e apart among
+  restored : (e : EntryData) → Contains (covered rule direction) e → value_of again (field_of e) ≡ restored_value iids e (value_of fields (field_of e))
+  restored e among = mapped_value rule direction (λ d. restored_value iids d (value_of fields (field_of d))) e apart among
 
-  no_operator : first_held (map (operator_fault again) (covered rule way)) ≡ None
+  no_operator : first_held (map (operator_fault again) (covered rule direction)) ≡ None
   no_operator =
-      none-held (operator_fault again) (covered rule way)
+      none-held (operator_fault again) (covered rule direction)
       (λ e among.
       ap not
       (ap (operator_holds e.operator e.targets) (restored e among)
-      ∙ holds-restored iids (stack_of rule) computed e (value_of fields (field_of e)) (passes_at rule way admitted e among) (agrees-at rule iids way fields computed e matches among)))
+      ∙ holds-restored iids (stack_of rule) computed e (value_of fields (field_of e)) (passes_at rule direction admitted e among) (agrees-at rule iids direction fields computed e matches among)))
 
-  reads_fields : (rest : List Bool) → restore_at rule iids way (residue_of rule way fields ++ rest) ≡ Ok (again, rest)
-  reads_fields rest = reads_back rule iids way fields computed rest admitted matches sized
+  reads_fields : (rest : List Bool) → restore_at rule iids direction (residue_of rule direction fields ++ rest) ≡ Ok (again, rest)
+  reads_fields rest = reads_back rule iids direction fields computed rest admitted matches sized
 
-  stands : Stands rule iids way again (residue_of rule way fields ++ []) []
-  stands = Stands-from_read rule iids way again (residue_of rule way fields ++ []) [] admitted (reads_fields [])
+  stands : Stands rule iids direction again (residue_of rule direction fields ++ []) []
+  stands = Stands-from_read rule iids direction again (residue_of rule direction fields ++ []) [] admitted (reads_fields [])
 
-  can_be_made : AreRestored rule way again
-  can_be_made = AreRestored-from_Stands rule iids way again (residue_of rule way fields ++ []) [] reading stands
+  can_be_made : AreRestored rule direction again
+  can_be_made = AreRestored-from_Stands rule iids direction again (residue_of rule direction fields ++ []) [] reading stands
 
   once : AllPairs (λ f g. f.at ≢ g.at) again
   once = stands.sized.each_once
 
-  same : IsSameSet rule way again
-  same = same-restored rule iids way again stands.restored
+  same : IsSameSet rule direction again
+  same = same-restored rule iids direction again stands.restored
 
-  uncomputed : (e : EntryData) → Contains (covered rule way) e → is_computed_by Compute e.name ≡ false → is_compute e.action ≡ false
+  uncomputed : (e : EntryData) → Contains (covered rule direction) e → is_computed_by Compute e.name ≡ false → is_compute e.action ≡ false
   uncomputed e among h =
       elim (cases_Bool (is_compute e.action)) [
         | inl c ↦
-            absurd (true≢false (sym (subst (λ a. is_computed_by a e.name ≡ true) (is_compute-true e.action c) (passes_at rule way admitted e among).computed) ∙ h))
+            absurd (true≢false (sym (subst (λ a. is_computed_by a e.name ≡ true) (is_compute-true e.action c) (passes_at rule direction admitted e among).computed) ∙ h))
         | inr n ↦ n
       ]
 
   -- a needed value that isn't computed is restored
-  kept : (e : EntryData) → Contains (covered rule way) e → is_computed_by Compute e.name ≡ false → is_needed e.name ≡ true → value_of again (field_of e) ≡ value_of fields (field_of e)
+  kept : (e : EntryData) → Contains (covered rule direction) e → is_computed_by Compute e.name ≡ false → is_needed e.name ≡ true → value_of again (field_of e) ≡ value_of fields (field_of e)
   kept e among c needed =
       restored e among
-      ∙ restored_value-agrees iids computed e (value_of fields (field_of e)) (passes_at rule way admitted e among).pair (needed-kept rule way e admitted among needed) (uncomputed e among c) (agrees-at rule iids way fields computed e matches among)
+      ∙ restored_value-agrees iids computed e (value_of fields (field_of e)) (passes_at rule direction admitted e among).pair (needed-kept rule direction e admitted among needed) (uncomputed e among c) (agrees-at rule iids direction fields computed e matches among)
 
   there : (f : FieldValue) → Contains mine f → (g : FieldValue) × Contains p.message_fields g × (f.at ≡ g.at)
   there f among =
@@ -250,22 +252,22 @@ module _ (rule : RuleData) (iids : Iids) (way : Direction) (packet : List ℕ) (
       let at : f.at ≡ g.0.at = sym e.2 ∙ g.2 in
       elim (Contains-append_cases heads_of p.message_fields g.0 (subst (λ (all : List FieldValue). Contains all g.0) p.its_fields g.1)) [
         | inl head ↦
-            absurd (below-coap g.0.at.name (All-contains (λ f. is_below_coap f.at.name ≡ true) heads_of g.0 (heads_below way packet) head)
+            absurd (below-coap g.0.at.name (All-contains (λ f. is_below_coap f.at.name ≡ true) heads_of g.0 (heads_below direction packet) head)
             (ap (λ (x : FieldAt). same_layer (layer_of x.name) layer.Coap) (sym at) ∙ member.1))
         | inr mine ↦ (g.0, mine, at)
       ]
 
   back : (g : FieldValue) → Contains p.message_fields g → (f : FieldValue) × Contains mine f × (g.at ≡ f.at)
   back g among =
-      let e = matches.same_set.each_field g (message-field way packet fields from g p among) in
+      let e = matches.same_set.each_field g (message-field direction packet fields from g p among) in
       let f = same.each_entry e.0 e.1 in
       let at : g.at ≡ f.0.at = sym e.2 ∙ f.2 in
-      (f.0, member-message again f.0 f.1 (ap (λ (x : FieldAt). same_layer (layer_of x.name) layer.Coap) (sym at) ∙ message_coap way packet fields from g p among), at)
+      (f.0, member-message again f.0 f.1 (ap (λ (x : FieldAt). same_layer (layer_of x.name) layer.Coap) (sym at) ∙ message_coap direction packet fields from g p among), at)
 
   like : (f g : FieldValue) → Contains mine f → Contains p.message_fields g → f.at ≡ g.at → IsAlike f g
   like f g m n at =
       let member = message-member again f m in
-      let among : Contains fields g = message-field way packet fields from g p n in
+      let among : Contains fields g = message-field direction packet fields from g p n in
       let e = matches.same_set.each_field g among in
       let name : e.0.name ≡ f.at.name = ap (λ (x : FieldAt). x.name) (e.2 ∙ sym at) in
       let coap : same_layer (layer_of e.0.name) layer.Coap ≡ true = ap (λ n. same_layer (layer_of n) layer.Coap) name ∙ member.1 in
@@ -307,23 +309,23 @@ module _ (rule : RuleData) (iids : Iids) (way : Direction) (packet : List ℕ) (
       let eight : size_after (stack_of rule) (length body) ≡ 8 + length body = ap (λ of. size_after of (length body)) s in
       omega (arith, eight, body_size, length-drop 48 packet, p.is_udp.header)
 
-  heads : Heads rule way
-  heads = Heads-from_reads rule way admitted reading
+  heads : Heads rule direction
+  heads = Heads-from_reads rule direction admitted reading
 
   abbrev names : List FieldName
   names = fields_of_stack stack.IpUdp
 
-  head_entry : (n : FieldName) → Contains names n → (e : EntryData) × Contains (covered rule way) e × (field_of e ≡ at_name n)
+  head_entry : (n : FieldName) → Contains names n → (e : EntryData) × Contains (covered rule direction) e × (field_of e ≡ at_name n)
   head_entry n among = heads.each_name n (subst (λ (of : Stack). Contains (fields_of_stack of) n) (sym (ap fixed_headers s)) among)
 
   -- the value of a name in the packet's headers
   own_head : (n : FieldName) → Contains names n → value_in heads_of n ≡ Some (value_of fields (at_name n))
   own_head n among =
-      let udp : FieldsOf stack.IpUdp way packet heads_of 48 = udp-of way packet fields from p in
-      let f : Contains heads_of (field_in way packet n) = field-named stack.IpUdp way packet heads_of 48 n udp among in
-      value_in-there heads_of n (field_in way packet n) f refl
-      ∙ ap Some (value_of-own heads_of (field_in way packet n) (once-fields stack.IpUdp way packet heads_of 48 udp) f
-      ∙ sym (value_of-own fields (field_in way packet n) own_once (head-field way packet fields from n p among)))
+      let udp : FieldsOf stack.IpUdp direction packet heads_of 48 = udp-of direction packet fields from p in
+      let f : Contains heads_of (field_in direction packet n) = field-named stack.IpUdp direction packet heads_of 48 n udp among in
+      value_in-there heads_of n (field_in direction packet n) f refl
+      ∙ ap Some (value_of-own heads_of (field_in direction packet n) (once-fields stack.IpUdp direction packet heads_of 48 udp) f
+      ∙ sym (value_of-own fields (field_in direction packet n) own_once (head-field direction packet fields from n p among)))
 
   front_kept : (n : FieldName) → Contains names n → is_needed n ≡ true → is_computed_by Compute n ≡ false → value_in again n ≡ value_in heads_of n
   front_kept n among needed free =
@@ -336,65 +338,80 @@ module _ (rule : RuleData) (iids : Iids) (way : Direction) (packet : List ℕ) (
 
   own_right : first_held (contents stack.IpUdp heads_of (length (drop 48 packet))) ≡ None
   own_right =
-      (join_refusal-none stack.IpUdp way heads_of (length (drop 48 packet)) (joins_again stack.IpUdp way packet heads_of 48 (udp-of way packet fields from p))).right
+      (join_refusal-none stack.IpUdp direction heads_of (length (drop 48 packet)) (joins_again stack.IpUdp direction packet heads_of 48 (udp-of direction packet fields from p))).right
 
-  front : first_held (front_faults again) ≡ None
+  front : first_held (front_tests again) ≡ None
   front =
       let n : ℕ = length (drop 48 packet) in
       rw (front_kept IpVersion (0, omega arith, refl) refl refl, front_kept IpNextHeader (4, omega arith, refl) refl refl)
-      (append-none (front_faults heads_of) (too_many (8 + n) ∷ other_number heads_of IpPayloadLength (8 + n) ∷ other_number heads_of UdpLength (8 + n) ∷ []) own_right).0
+      (append-none (front_tests heads_of) (too_many (8 + n) ∷ other_number heads_of IpPayloadLength (8 + n) ∷ other_number heads_of UdpLength (8 + n) ∷ []) own_right).0
 
   abbrev headers : List FieldValue
-  headers = headers_of rule way again (length body)
+  headers = filled_headers rule direction again (length body)
 
   header_kept : (n : FieldName) → Contains names n → is_needed n ≡ true → same_name n UdpChecksum ≡ false → value_in headers n ≡ value_in heads_of n
   header_kept n among needed other =
       let e = head_entry n among in
       let name : e.0.name ≡ n = ap (λ (at : FieldAt). at.name) e.2 in
-      let lossy : is_lossy e.0.operator e.0.action ≡ false = needed-kept rule way e.0 admitted e.1 (ap is_needed name ∙ needed) in
+      let lossy : is_lossy e.0.operator e.0.action ≡ false = needed-kept rule direction e.0 admitted e.1 (ap is_needed name ∙ needed) in
       let checksum : is_computed_checksum e.0 ≡ false = rw (name, other) refl in
-      let value : header_values rule way again (length body) n ≡ value_of fields (at_name n) =
+      let value : header_values rule direction again (length body) n ≡ value_of fields (at_name n) =
       ap (value_of headers) (sym e.2)
-      ∙ heads-value rule way again (length body) e.0 heads e.1
+      ∙ heads-value rule direction again (length body) e.0 heads e.1
       ∙ ap (λ m. filled_value m e.0 (value_of again (field_of e.0))) size
       ∙ ap (filled_value (length packet - 40) e.0) (restored e.0 e.1)
-      ∙ filled-kept iids (stack_of rule) packet e.0 (value_of fields (field_of e.0)) (passes_at rule way admitted e.0 e.1) (λ c. computed-coap rule way e.0 s admitted e.1 c) (agrees-at rule iids way fields computed e.0 matches e.1) lossy checksum
+      ∙ filled-kept iids (stack_of rule) packet e.0 (value_of fields (field_of e.0)) (passes_at rule direction admitted e.0 e.1) (λ c. computed-coap rule direction e.0 s admitted e.1 c) (agrees-at rule iids direction fields computed e.0 matches e.1) lossy checksum
       ∙ ap (value_of fields) e.2
       in
-      all_at (λ m. value_in headers m ≡ Some (header_values rule way again (length body) m)) (fields_of_stack (fixed_headers (stack_of rule))) (heads-found rule way again (length body) heads) n (subst (λ (of : Stack). Contains (fields_of_stack of) n) (sym (ap fixed_headers s)) among)
+      all_at (λ m. value_in headers m ≡ Some (header_values rule direction again (length body) m)) (fields_of_stack (fixed_headers (stack_of rule))) (heads-found rule direction again (length body) heads) n (subst (λ (of : Stack). Contains (fields_of_stack of) n) (sym (ap fixed_headers s)) among)
       ∙ ap Some value
       ∙ sym (own_head n among)
 
-  right : first_held (contents (stack_of rule) headers (length body)) ≡ None
-  right =
-      ap (λ of. first_held (contents of headers (length body))) s
-      ∙ ap first_held (contents_by stack.IpUdp headers heads_of (length body) tt header_kept)
+  right-coap : first_held (contents stack.IpUdpCoap headers (length body)) ≡ None
+  right-coap =
+      ap first_held (contents_by stack.IpUdp headers heads_of (length body) tt header_kept)
       ∙ ap (λ n. first_held (contents stack.IpUdp heads_of n)) body_size
       ∙ own_right
 
-  rebuilt-restored : rebuilt rule way again payload ≡ Ok (packet_of rule way again payload)
-  unfolding headed
+  right : first_held (contents (stack_of rule) headers (length body)) ≡ None
+  right = ap (λ of. first_held (contents of headers (length body))) s ∙ right-coap
+
+  messaged : first_held (message_tests stack.IpUdpCoap again) ≡ None
+  messaged = message_tests-none again front (none-wrong mine joins)
+
+  -- nothing is wrong with what is tried, and nothing with what is listed
+  as_listed : first_held (made_tests rule direction again (body_of (stack_of rule) again payload)) ≡ first_held (map (λ condition. (condition.0, wrong_field condition.1)) (value_faults rule direction again (length (body_of (stack_of rule) again payload))))
+  as_listed =
+      ap (λ of. first_held (made_tests rule direction again (body_of of again payload))) s
+      ∙ ap (λ of. first_held (message_tests of again ++ header_tests of headers (length body))) s
+      ∙ first_held-append_none (message_tests stack.IpUdpCoap again) (header_tests stack.IpUdpCoap headers (length body)) messaged
+      ∙ header_tests-none stack.IpUdpCoap headers (length body) right-coap
+      ∙ sym (coap-listed-none rule direction again admitted can_be_made body s messaged right-coap)
+      ∙ ap (λ of. first_held (map (λ condition. (condition.0, wrong_field condition.1)) (value_faults rule direction again (length (body_of of again payload))))) (sym s)
+
+  rebuilt-restored : rebuilt rule direction again payload ≡ Ok (packet_of rule direction again payload)
+  unfolding packet_behind_headers
   rebuilt-restored =
-      rebuilt_made rule way again payload no_operator
-      ∙ coap_made rule way again payload body s (message_faults-none again front (none-wrong mine joins)) refl
-      ∙ ap (λ found. packet_or found (packet_around rule way again body)) (header_faults-none (stack_of rule) headers (length body) right)
-      ∙ ap (λ of. Ok (packet_around rule way again (body_of of again payload))) (sym s)
+      rebuilt_made rule direction again payload no_operator as_listed
+      ∙ coap_made rule direction again payload body s messaged refl
+      ∙ ap (λ found. packet_or found (packet_around rule direction again body)) (header_tests-none (stack_of rule) headers (length body) right)
+      ∙ ap (λ of. Ok (packet_around rule direction again (body_of of again payload))) (sym s)
 
-  made : AreBytes payload → IsCoapPut rule way again payload (packet_of rule way again payload)
-  made bytes = coap-put rule way again payload s admitted can_be_made same once joins bytes right
+  made : AreBytes payload → IsCoapPut rule direction again payload (packet_of rule direction again payload)
+  made bytes = coap-put rule direction again payload s admitted can_be_made same once joins bytes right
 
-  same-fields : (packet' : List ℕ) → map (λ (f : FieldValue). f.at) (fields_in stack.IpUdp way packet' ++ mine) ≡ map (λ (f : FieldValue). f.at) fields
+  same-fields : (packet' : List ℕ) → map (λ (f : FieldValue). f.at) (fields_in stack.IpUdp direction packet' ++ mine) ≡ map (λ (f : FieldValue). f.at) fields
   unfolding fields_in
   same-fields packet' =
-      map-append (λ (f : FieldValue). f.at) (fields_in stack.IpUdp way packet') mine
-      ∙ ap (λ (xs : List FieldAt). xs ++ map (λ (f : FieldValue). f.at) mine) (ats way packet' (fields_in_packet_order stack.IpUdp way) ∙ sym (ats way packet (fields_in_packet_order stack.IpUdp way)))
+      map-append (λ (f : FieldValue). f.at) (fields_in stack.IpUdp direction packet') mine
+      ∙ ap (λ (xs : List FieldAt). xs ++ map (λ (f : FieldValue). f.at) mine) (ats direction packet' (fields_in_packet_order stack.IpUdp direction) ∙ sym (ats direction packet (fields_in_packet_order stack.IpUdp direction)))
       ∙ ap (λ (xs : List FieldAt). map (λ (f : FieldValue). f.at) heads_of ++ xs) (alike-ats mine p.message_fields alike)
       ∙ sym (map-append (λ (f : FieldValue). f.at) heads_of p.message_fields)
       ∙ ap (map (λ (f : FieldValue). f.at)) (sym p.its_fields)
 
-  IsRestored-from_put : (packet' : List ℕ) → IsCoapPut rule way again payload packet' → IsRestored rule way packet packet'
+  IsRestored-from_put : (packet' : List ℕ) → IsCoapPut rule direction again payload packet' → IsRestored rule direction packet packet'
   IsRestored-from_put packet' m =
-      let within : from ≤ length packet = from-within (stack_of rule) way packet fields from is_packet in
+      let within : from ≤ length packet = from-within (stack_of rule) direction packet fields from is_packet in
       let place : m.put.from ≡ from =
       omega (arith, m.from_is, body_size, length-drop 48 packet, length-drop from packet, p.its_payload, within)
       in
@@ -406,31 +423,31 @@ module _ (rule : RuleData) (iids : Iids) (way : Direction) (packet : List ℕ) (
         restored_fields = m.put.its_fields;
         payload_from = from;
         is_packet = is_packet;
-        is_restored = subst (λ n. PacketOf (stack_of rule) way packet' m.put.its_fields n) place m.put.is_packet;
+        is_restored = subst (λ n. PacketOf (stack_of rule) direction packet' m.put.its_fields n) place m.put.is_packet;
         same_fields = ap (map (λ (f : FieldValue). f.at)) m.fields_are ∙ same-fields packet';
         same_payload = ap (λ n. drop n packet') (sym place) ∙ m.put.its_payload;
         values = λ e among.
             m.put.values e among
             ∙ ap (λ n. made_value (checksum_of packet') n e (value_of again (field_of e))) same_size
             ∙ ap (made_value (checksum_of packet') (length packet - 40) e) (restored e among)
-            ∙ made-kept iids (stack_of rule) packet e (value_of fields (field_of e)) (checksum_of packet') (passes_at rule way admitted e among) (λ c. computed-coap rule way e s admitted among c) (agrees-at rule iids way fields computed e matches among);
+            ∙ made-kept iids (stack_of rule) packet e (value_of fields (field_of e)) (checksum_of packet') (passes_at rule direction admitted e among) (λ c. computed-coap rule direction e s admitted among c) (agrees-at rule iids direction fields computed e matches among);
       }
 
-  read-restored : (padding : List Bool) → AreBytes payload → length padding ≤ 7 → rebuilt_from rule way (restore_at rule iids way (residue_of rule way fields ++ (octets payload ++ padding))) ≡ Ok (packet_of rule way again payload)
+  read-restored : (padding : List Bool) → AreBytes payload → length padding ≤ 7 → rebuilt_from rule direction (restore_at rule iids direction (residue_of rule direction fields ++ (octets payload ++ padding))) ≡ Ok (packet_of rule direction again payload)
   read-restored padding bytes short =
       let whole : bytes_of (octets payload ++ padding) ≡ payload =
       bytes_of-octets-append payload padding bytes
       ∙ ap (λ (rest : List ℕ). payload ++ rest) (bytes_of-short padding (omega (arith, short)))
       ∙ append-nil payload
       in
-      ap (rebuilt_from rule way) (reads_fields (octets payload ++ padding)) ∙ ap (rebuilt rule way again) whole ∙ rebuilt-restored
+      ap (rebuilt_from rule direction) (reads_fields (octets payload ++ padding)) ∙ ap (rebuilt rule direction again) whole ∙ rebuilt-restored
 
-  pub IsReadBack-coap : (padding : List Bool) → AreBytes payload → length padding ≤ 7 → IsReadBack rule iids way packet (residue_of rule way fields ++ (octets payload ++ padding))
+  pub IsReadBack-coap : (padding : List Bool) → AreBytes payload → length padding ≤ 7 → IsReadBack rule iids direction packet (residue_of rule direction fields ++ (octets payload ++ padding))
   IsReadBack-coap padding bytes short =
       let m = made bytes in
       record {
-        restored = packet_of rule way again payload;
-        restores = IsRestored-from_put (packet_of rule way again payload) m;
+        restored = packet_of rule direction again payload;
+        restores = IsRestored-from_put (packet_of rule direction again payload) m;
         are_bytes = m.put.bytes;
         reading = reading;
         is_read = read-restored padding bytes short;

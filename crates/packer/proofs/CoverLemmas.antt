@@ -98,64 +98,64 @@ other_one : (x e : EntryData) → field_of x ≡ field_of e → same_field (fiel
 other_one x e s f = true≢false (sym (subst (λ (at : FieldAt). same_field (field_of x) at ≡ true) s (same_field-itself (field_of x))) ∙ f)
 
 -- entries that are used are one, where they are of one field
-pub same_entry : (way : Direction) (entries : List EntryData) (d e : EntryData) → AreApart entries → Contains (kept way entries) d → Contains (kept way entries) e → field_of d ≡ field_of e → d ≡ e
-same_entry way [] d e apart m n s = absurd (omega (arith, m.1))
-same_entry way (x ∷ later) d e apart m n s =
-    elim (cases_Bool (covers x.direction way)) [
+pub same_entry : (direction : Direction) (entries : List EntryData) (d e : EntryData) → AreApart entries → Contains (kept direction entries) d → Contains (kept direction entries) e → field_of d ≡ field_of e → d ≡ e
+same_entry direction [] d e apart m n s = absurd (omega (arith, m.1))
+same_entry direction (x ∷ later) d e apart m n s =
+    elim (cases_Bool (covers x.direction direction)) [
       | inl t ↦
-          let others = apart_kept way x later apart t in
-          let first = Contains-parts x (kept way later) d (subst (λ (es : List EntryData). Contains es d) (kept-used way x later t) m) in
-          let second = Contains-parts x (kept way later) e (subst (λ (es : List EntryData). Contains es e) (kept-used way x later t) n) in
+          let others = apart_kept direction x later apart t in
+          let first = Contains-parts x (kept direction later) d (subst (λ (es : List EntryData). Contains es d) (kept-used direction x later t) m) in
+          let second = Contains-parts x (kept direction later) e (subst (λ (es : List EntryData). Contains es e) (kept-used direction x later t) n) in
           elim first [
             | inl a ↦
                 elim second [
                   | inl b ↦ sym a ∙ b
-                  | inr b ↦ absurd (other_one x e (ap field_of a ∙ s) (all_at (λ d. same_field (field_of x) (field_of d) ≡ false) (kept way later) others e b))
+                  | inr b ↦ absurd (other_one x e (ap field_of a ∙ s) (all_at (λ d. same_field (field_of x) (field_of d) ≡ false) (kept direction later) others e b))
                 ]
             | inr a ↦
                 elim second [
-                  | inl b ↦ absurd (other_one x d (ap field_of b ∙ sym s) (all_at (λ d. same_field (field_of x) (field_of d) ≡ false) (kept way later) others d a))
-                  | inr b ↦ same_entry way later d e apart.1 a b s
+                  | inl b ↦ absurd (other_one x d (ap field_of b ∙ sym s) (all_at (λ d. same_field (field_of x) (field_of d) ≡ false) (kept direction later) others d a))
+                  | inr b ↦ same_entry direction later d e apart.1 a b s
                 ]
           ]
       | inr f ↦
-          same_entry way later d e apart.1 (subst (λ (es : List EntryData). Contains es d) (kept-unused way x later f) m)
-          (subst (λ (es : List EntryData). Contains es e) (kept-unused way x later f) n) s
+          same_entry direction later d e apart.1 (subst (λ (es : List EntryData). Contains es d) (kept-unused direction x later f) m)
+          (subst (λ (es : List EntryData). Contains es e) (kept-unused direction x later f) n) s
     ]
 
 -- a field for each entry
 abbrev pub with_values : (EntryData → List Bool) → EntryData → FieldValue
 with_values h e = record { at = field_of e; value = h e }
 
-found_used : (way : Direction) (h : EntryData → List Bool) (x : EntryData) (later : List EntryData) (e : EntryData) (at : FieldAt) → AreApart (x ∷ later) → covers x.direction way ≡ true → Contains (x ∷ kept way later) e → field_of e ≡ at → (Contains (kept way later) e → value_of (map (with_values h) (kept way later)) at ≡ h e) → value_of (map (with_values h) (x ∷ kept way later)) at ≡ h e
-found_used way h x later e at apart t among s rest =
-    elim (Contains-parts x (kept way later) e among) [
+found_used : (direction : Direction) (h : EntryData → List Bool) (x : EntryData) (later : List EntryData) (e : EntryData) (at : FieldAt) → AreApart (x ∷ later) → covers x.direction direction ≡ true → Contains (x ∷ kept direction later) e → field_of e ≡ at → (Contains (kept direction later) e → value_of (map (with_values h) (kept direction later)) at ≡ h e) → value_of (map (with_values h) (x ∷ kept direction later)) at ≡ h e
+found_used direction h x later e at apart t among s rest =
+    elim (Contains-parts x (kept direction later) e among) [
       | inl a ↦
           let passes : same_field (field_of x) at ≡ true = subst (λ (b : FieldAt). same_field (field_of x) b ≡ true) (ap field_of a ∙ s) (same_field-itself (field_of x)) in
           rw passes (ap h a)
       | inr a ↦
           let fails : same_field (field_of x) at ≡ false =
-          subst (λ (b : FieldAt). same_field (field_of x) b ≡ false) s (all_at (λ d. same_field (field_of x) (field_of d) ≡ false) (kept way later) (apart_kept way x later apart t) e a)
+          subst (λ (b : FieldAt). same_field (field_of x) b ≡ false) s (all_at (λ d. same_field (field_of x) (field_of d) ≡ false) (kept direction later) (apart_kept direction x later apart t) e a)
           in
           rw fails (rest a)
     ]
 
 -- the value of an entry's field, where there is one for each entry that is used
-value_along : (way : Direction) (h : EntryData → List Bool) (entries : List EntryData) (e : EntryData) (at : FieldAt) → AreApart entries → Contains (kept way entries) e → field_of e ≡ at → value_of (map (with_values h) (kept way entries)) at ≡ h e
-value_along way h [] e at apart among s = absurd (omega (arith, among.1))
-value_along way h (x ∷ later) e at apart among s =
-    elim (cases_Bool (covers x.direction way)) [
+value_along : (direction : Direction) (h : EntryData → List Bool) (entries : List EntryData) (e : EntryData) (at : FieldAt) → AreApart entries → Contains (kept direction entries) e → field_of e ≡ at → value_of (map (with_values h) (kept direction entries)) at ≡ h e
+value_along direction h [] e at apart among s = absurd (omega (arith, among.1))
+value_along direction h (x ∷ later) e at apart among s =
+    elim (cases_Bool (covers x.direction direction)) [
       | inl t ↦
-          ap (λ (es : List EntryData). value_of (map (with_values h) es) at) (kept-used way x later t)
-          ∙ found_used way h x later e at apart t (subst (λ (es : List EntryData). Contains es e) (kept-used way x later t) among) s
-          (λ a. value_along way h later e at apart.1 a s)
+          ap (λ (es : List EntryData). value_of (map (with_values h) es) at) (kept-used direction x later t)
+          ∙ found_used direction h x later e at apart t (subst (λ (es : List EntryData). Contains es e) (kept-used direction x later t) among) s
+          (λ a. value_along direction h later e at apart.1 a s)
       | inr f ↦
-          ap (λ (es : List EntryData). value_of (map (with_values h) es) at) (kept-unused way x later f)
-          ∙ value_along way h later e at apart.1 (subst (λ (es : List EntryData). Contains es e) (kept-unused way x later f) among) s
+          ap (λ (es : List EntryData). value_of (map (with_values h) es) at) (kept-unused direction x later f)
+          ∙ value_along direction h later e at apart.1 (subst (λ (es : List EntryData). Contains es e) (kept-unused direction x later f) among) s
     ]
 
-pub mapped_value : (rule : RuleData) (way : Direction) (h : EntryData → List Bool) (e : EntryData) → AreApart rule.entries → Contains (covered rule way) e → value_of (map (with_values h) (covered rule way)) (field_of e) ≡ h e
-mapped_value rule way h e apart among = value_along way h rule.entries e (field_of e) apart among refl
+pub mapped_value : (rule : RuleData) (direction : Direction) (h : EntryData → List Bool) (e : EntryData) → AreApart rule.entries → Contains (covered rule direction) e → value_of (map (with_values h) (covered rule direction)) (field_of e) ≡ h e
+mapped_value rule direction h e apart among = value_along direction h rule.entries e (field_of e) apart among refl
 
 -- a field that is there is found by its name
 pub value_in-there : (fields : List FieldValue) (name : FieldName) (f : FieldValue) → Contains fields f → f.at ≡ at_name name → value_in fields name ≡ Some (value_of fields (at_name name))
@@ -259,16 +259,16 @@ first_position e h o =
     ap (placed e.name) one
 
 -- the entries that are used are those of the fields of the headers
-pub record Covers (rule : RuleData) (way : Direction) : Type 0 where
+pub record Covers (rule : RuleData) (direction : Direction) : Type 0 where
   pub without : IsWithoutCoap (stack_of rule)
   pub apart : AreApart rule.entries
-  pub each_entry : (e : EntryData) → Contains (covered rule way) e → Contains (fields_of_stack (stack_of rule)) e.name × (field_of e ≡ at_name e.name)
-  pub each_name : (name : FieldName) → Contains (fields_of_stack (stack_of rule)) name → (e : EntryData) × Contains (covered rule way) e × (field_of e ≡ at_name name)
+  pub each_entry : (e : EntryData) → Contains (covered rule direction) e → Contains (fields_of_stack (stack_of rule)) e.name × (field_of e ≡ at_name e.name)
+  pub each_name : (name : FieldName) → Contains (fields_of_stack (stack_of rule)) name → (e : EntryData) × Contains (covered rule direction) e × (field_of e ≡ at_name name)
 
 -- an entry of an admitted rule that reads the direction
-entry_named : (rule : RuleData) (way : Direction) (e : EntryData) → IsAdmitted rule → IsWithoutCoap (stack_of rule) → Contains (covered rule way) e → Contains (fields_of_stack (stack_of rule)) e.name × (field_of e ≡ at_name e.name)
-entry_named rule way e admitted r among =
-    let own : Contains rule.entries e = (unfilter (λ d. covers d.direction way) rule.entries e among).0 in
+entry_named : (rule : RuleData) (direction : Direction) (e : EntryData) → IsAdmitted rule → IsWithoutCoap (stack_of rule) → Contains (covered rule direction) e → Contains (fields_of_stack (stack_of rule)) e.name × (field_of e ≡ at_name e.name)
+entry_named rule direction e admitted r among =
+    let own : Contains rule.entries e = (unfilter (λ d. covers d.direction direction) rule.entries e among).0 in
     let listed : list_any (same_name e.name) (fields_of_stack (stack_of rule)) ≡ true =
     stack_listed (has_layer rule layer.Coap) (has_layer rule layer.Udp) e.name r
     (λ none. fails_each (λ d. same_layer (layer_of d.name) layer.Coap) rule.entries none e own)
@@ -280,16 +280,16 @@ entry_named rule way e admitted r among =
       first_position e holds.shape (no_option e.name (stack_of rule) r listed),
     )
 
-name_entered : (rule : RuleData) (way : Direction) (name : FieldName) → IsAdmitted rule → IsWithoutCoap (stack_of rule) → serves rule way ≡ true → Contains (fields_of_stack (stack_of rule)) name → (e : EntryData) × Contains (covered rule way) e × (field_of e ≡ at_name name)
-name_entered rule way name admitted r s among =
-    let some = passes_some (λ e. same_name e.name name) (covered rule way) (passes_each (has_field rule way) (fields_of_stack (stack_of rule)) s name among) in
-    (some.0, some.1, (entry_named rule way some.0 admitted r some.1).1 ∙ ap at_name (same_name-true some.0.name name some.2))
+name_entered : (rule : RuleData) (direction : Direction) (name : FieldName) → IsAdmitted rule → IsWithoutCoap (stack_of rule) → serves rule direction ≡ true → Contains (fields_of_stack (stack_of rule)) name → (e : EntryData) × Contains (covered rule direction) e × (field_of e ≡ at_name name)
+name_entered rule direction name admitted r s among =
+    let some = passes_some (λ e. same_name e.name name) (covered rule direction) (passes_each (has_field rule direction) (fields_of_stack (stack_of rule)) s name among) in
+    (some.0, some.1, (entry_named rule direction some.0 admitted r some.1).1 ∙ ap at_name (same_name-true some.0.name name some.2))
 
-pub Covers-from_reads : (rule : RuleData) (way : Direction) → IsAdmitted rule → IsWithoutCoap (stack_of rule) → reads rule way ≡ true → Covers rule way
-Covers-from_reads rule way admitted without h =
+pub Covers-from_reads : (rule : RuleData) (direction : Direction) → IsAdmitted rule → IsWithoutCoap (stack_of rule) → reads rule direction ≡ true → Covers rule direction
+Covers-from_reads rule direction admitted without h =
     record {
       without = without;
       apart = AreApart-from_IsAdmitted rule admitted;
-      each_entry = λ e among. entry_named rule way e admitted without among;
-      each_name = λ name among. name_entered rule way name admitted without h among;
+      each_entry = λ e among. entry_named rule direction e admitted without among;
+      each_name = λ name among. name_entered rule direction name admitted without h among;
     }

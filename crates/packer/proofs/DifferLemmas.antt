@@ -105,13 +105,13 @@ bytes-same place count x y a b e =
 
 -- the field has the same bits in both packets
 abbrev Same : Direction → List ℕ → List ℕ → FieldName → Type 0
-Same way x y n = field_bits way x n ≡ field_bits way y n
+Same direction x y n = field_bits direction x n ≡ field_bits direction y n
 
-addresses-same : (way : Direction) (x y : List ℕ) → AreBytes x → AreBytes y → Same way x y IpDevPrefix → Same way x y IpDevIid → Same way x y IpAppPrefix → Same way x y IpAppIid → take 32 (drop 8 x) ≡ take 32 (drop 8 y)
+addresses-same : (direction : Direction) (x y : List ℕ) → AreBytes x → AreBytes y → Same direction x y IpDevPrefix → Same direction x y IpDevIid → Same direction x y IpAppPrefix → Same direction x y IpAppIid → take 32 (drop 8 x) ≡ take 32 (drop 8 y)
 addresses-same Up x y a b d e f g = bytes-same 8 32 x y a b (piece-more 64 192 64 x y (piece-more 64 128 64 x y (piece-more 64 64 64 x y d e) f) g)
 addresses-same Down x y a b d e f g = bytes-same 8 32 x y a b (piece-more 64 192 64 x y (piece-more 64 128 64 x y (piece-more 64 64 64 x y f g) d) e)
 
-ports-same : (way : Direction) (x y : List ℕ) → AreBytes x → AreBytes y → Same way x y UdpDevPort → Same way x y UdpAppPort → Same way x y UdpLength → take 6 (drop 40 x) ≡ take 6 (drop 40 y)
+ports-same : (direction : Direction) (x y : List ℕ) → AreBytes x → AreBytes y → Same direction x y UdpDevPort → Same direction x y UdpAppPort → Same direction x y UdpLength → take 6 (drop 40 x) ≡ take 6 (drop 40 y)
 ports-same Up x y a b d e f = bytes-same 40 6 x y a b (piece-more 320 32 16 x y (piece-more 320 16 16 x y d e) f)
 ports-same Down x y a b d e f = bytes-same 40 6 x y a b (piece-more 320 32 16 x y (piece-more 320 16 16 x y e d) f)
 
@@ -131,28 +131,28 @@ udp-size stack.Ip u = absurd u
 udp-size stack.IpUdp u = refl
 udp-size stack.IpUdpCoap u = refl
 
-udp-at : (of : Stack) (way : Direction) (x : List ℕ) (fields : List FieldValue) (from : ℕ) (f : FieldValue) → PacketOf of way x fields from → Contains fields f → f.at.name ≡ UdpChecksum → HasUdp of
-udp-at stack.Ip way x fields from f p among e =
-    let named = named-field stack.Ip way x fields from f p among in
+udp-at : (of : Stack) (direction : Direction) (x : List ℕ) (fields : List FieldValue) (from : ℕ) (f : FieldValue) → PacketOf of direction x fields from → Contains fields f → f.at.name ≡ UdpChecksum → HasUdp of
+udp-at stack.Ip direction x fields from f p among e =
+    let named = named-field stack.Ip direction x fields from f p among in
     let name : named.0 ≡ UdpChecksum = ap (λ (g : FieldValue). g.at.name) named.2 ∙ e in
     absurd (false≢true (passes_each (λ n. not (same_name n UdpChecksum)) ip_fields refl UdpChecksum (subst (Contains ip_fields) name named.1)))
-udp-at stack.IpUdp way x fields from f p among e = tt
-udp-at stack.IpUdpCoap way x fields from f p among e = tt
+udp-at stack.IpUdp direction x fields from f p among e = tt
+udp-at stack.IpUdpCoap direction x fields from f p among e = tt
 
-udp-long : (of : Stack) (way : Direction) (x : List ℕ) (fields : List FieldValue) (from : ℕ) → HasUdp of → PacketOf of way x fields from → 48 ≤ length x
-udp-long stack.Ip way x fields from u p = absurd u
-udp-long stack.IpUdp way x fields from u p = p.is_packet.header
-udp-long stack.IpUdpCoap way x fields from u p = p.is_udp.header
+udp-long : (of : Stack) (direction : Direction) (x : List ℕ) (fields : List FieldValue) (from : ℕ) → HasUdp of → PacketOf of direction x fields from → 48 ≤ length x
+udp-long stack.Ip direction x fields from u p = absurd u
+udp-long stack.IpUdp direction x fields from u p = p.is_packet.header
+udp-long stack.IpUdpCoap direction x fields from u p = p.is_udp.header
 
-once-packet : (of : Stack) (way : Direction) (x : List ℕ) (fields : List FieldValue) (from : ℕ) → PacketOf of way x fields from → AllPairs (λ f g. f.at ≢ g.at) fields
-once-packet stack.Ip way x fields from p = once-fields stack.Ip way x fields from p
-once-packet stack.IpUdp way x fields from p = once-fields stack.IpUdp way x fields from p
-once-packet stack.IpUdpCoap way x fields from p = once-coap way x fields from p
+once-packet : (of : Stack) (direction : Direction) (x : List ℕ) (fields : List FieldValue) (from : ℕ) → PacketOf of direction x fields from → AllPairs (λ f g. f.at ≢ g.at) fields
+once-packet stack.Ip direction x fields from p = once-fields stack.Ip direction x fields from p
+once-packet stack.IpUdp direction x fields from p = once-fields stack.IpUdp direction x fields from p
+once-packet stack.IpUdpCoap direction x fields from p = once-coap direction x fields from p
 
-head-packet : (of : Stack) (way : Direction) (x : List ℕ) (fields : List FieldValue) (from : ℕ) → HasUdp of → PacketOf of way x fields from → (n : FieldName) → Contains (fields_of_stack stack.IpUdp) n → Contains fields (field_in way x n)
-head-packet stack.Ip way x fields from u p n among = absurd u
-head-packet stack.IpUdp way x fields from u p n among = field-named stack.IpUdp way x fields from n p among
-head-packet stack.IpUdpCoap way x fields from u p n among = head-field way x fields from n p among
+head-packet : (of : Stack) (direction : Direction) (x : List ℕ) (fields : List FieldValue) (from : ℕ) → HasUdp of → PacketOf of direction x fields from → (n : FieldName) → Contains (fields_of_stack stack.IpUdp) n → Contains fields (field_in direction x n)
+head-packet stack.Ip direction x fields from u p n among = absurd u
+head-packet stack.IpUdp direction x fields from u p n among = field-named stack.IpUdp direction x fields from n p among
+head-packet stack.IpUdpCoap direction x fields from u p n among = head-field direction x fields from n p among
 
 -- the checksum isn't computed over itself, and it is over CoAP
 in-uncomputed : (name : FieldName) → is_in_checksum name ≡ true → same_name name UdpChecksum ≡ false
@@ -176,72 +176,72 @@ coap-in _ h = absurd (false≢true h)
 abbrev Stays : EntryData → Type 0
 Stays e = (is_lossy e.operator e.action ≡ false) × (is_computed_checksum e ≡ false)
 
-module _ (rule : RuleData) (iids : Iids) (way : Direction) (packet restored : List ℕ) (admitted : IsAdmitted rule) (a : AreBytes packet) (b : AreBytes restored) (m : MatchesPacket rule iids way packet) (r : IsRestored rule way packet restored) where
+module _ (rule : RuleData) (iids : Iids) (direction : Direction) (packet restored : List ℕ) (admitted : IsAdmitted rule) (a : AreBytes packet) (b : AreBytes restored) (m : MatchesPacket rule iids direction packet) (r : IsRestored rule direction packet restored) where
   same_fields : r.fields ≡ m.fields
-  same_fields = (packet-both (stack_of rule) way packet r.fields r.payload_from m.fields m.payload_from r.is_packet m.is_packet).0
+  same_fields = (packet-both (stack_of rule) direction packet r.fields r.payload_from m.fields m.payload_from r.is_packet m.is_packet).0
 
   -- the entry of a field
-  entry : (f : FieldValue) → Contains r.restored_fields f → (e : EntryData) × Contains (covered rule way) e × (field_of e ≡ f.at)
+  entry : (f : FieldValue) → Contains r.restored_fields f → (e : EntryData) × Contains (covered rule direction) e × (field_of e ≡ f.at)
   entry f among =
       let g = Contains-unmap (λ (f : FieldValue). f.at) r.fields f.at (subst (λ (all : List FieldAt). Contains all f.at) r.same_fields (Contains-map (λ (f : FieldValue). f.at) r.restored_fields f among)) in
       let e = m.matches.same_set.each_field g.0 (subst (λ (all : List FieldValue). Contains all g.0) same_fields g.1) in
       (e.0, e.1, e.2 ∙ g.2)
 
-  new-value : (f : FieldValue) (e : EntryData) → Contains r.restored_fields f → Contains (covered rule way) e → field_of e ≡ f.at → f.value ≡ kept_value (checksum_of restored) e (value_of r.fields (field_of e))
+  new-value : (f : FieldValue) (e : EntryData) → Contains r.restored_fields f → Contains (covered rule direction) e → field_of e ≡ f.at → f.value ≡ kept_value (checksum_of restored) e (value_of r.fields (field_of e))
   new-value f e among used at =
-      sym (value_of-own r.restored_fields f (once-packet (stack_of rule) way restored r.restored_fields r.payload_from r.is_restored) among)
+      sym (value_of-own r.restored_fields f (once-packet (stack_of rule) direction restored r.restored_fields r.payload_from r.is_restored) among)
       ∙ ap (value_of r.restored_fields) (sym at) ∙ r.values e used
 
   old-value : (g : FieldValue) (e : EntryData) → Contains r.fields g → field_of e ≡ g.at → value_of r.fields (field_of e) ≡ g.value
   old-value g e among at =
-      ap (value_of r.fields) at ∙ value_of-own r.fields g (once-packet (stack_of rule) way packet r.fields r.payload_from r.is_packet) among
+      ap (value_of r.fields) at ∙ value_of-own r.fields g (once-packet (stack_of rule) direction packet r.fields r.payload_from r.is_packet) among
 
-  stays : (f g : FieldValue) → Contains r.restored_fields f → Contains r.fields g → f.at ≡ g.at → ((e : EntryData) → Contains (covered rule way) e → field_of e ≡ f.at → Stays e) → f.value ≡ g.value
+  stays : (f g : FieldValue) → Contains r.restored_fields f → Contains r.fields g → f.at ≡ g.at → ((e : EntryData) → Contains (covered rule direction) e → field_of e ≡ f.at → Stays e) → f.value ≡ g.value
   stays f g x y at h =
       let e = entry f x in
       let none : Stays e.0 = h e.0 e.1 e.2 in
       let plain : kept_value (checksum_of restored) e.0 (value_of r.fields (field_of e.0)) ≡ value_of r.fields (field_of e.0) = rw (none.0, none.1) refl in
       new-value f e.0 x e.1 e.2 ∙ plain ∙ old-value g e.0 y (e.2 ∙ at)
 
-  module _ (u : HasUdp (stack_of rule)) (clear : list_any (λ f. is_in_checksum f.name) (lossy_fields rule way) ≡ false) where
+  module _ (u : HasUdp (stack_of rule)) (clear : list_any (λ f. is_in_checksum f.name) (lossy_fields rule direction) ≡ false) where
     -- what the checksum is computed over isn't dropped
-    in-stays : (e : EntryData) → Contains (covered rule way) e → is_in_checksum e.name ≡ true → Stays e
+    in-stays : (e : EntryData) → Contains (covered rule direction) e → is_in_checksum e.name ≡ true → Stays e
     in-stays e among h = (
       elim (cases_Bool (is_lossy e.operator e.action)) [
         | inl l ↦
-            absurd (true≢false (sym h ∙ fails_each (λ (f : FieldAt). is_in_checksum f.name) (lossy_fields rule way) clear (field_of e) (lossy-listed rule way e among l)))
+            absurd (true≢false (sym h ∙ fails_each (λ (f : FieldAt). is_in_checksum f.name) (lossy_fields rule direction) clear (field_of e) (lossy-listed rule direction e among l)))
         | inr f ↦ f
       ],
       rw (in-uncomputed e.name h) refl,
     )
 
-    length-stays : (e : EntryData) → Contains (covered rule way) e → e.name ≡ UdpLength → Stays e
-    length-stays e among h = (needed-kept rule way e admitted among (ap is_needed h), rw h refl)
+    length-stays : (e : EntryData) → Contains (covered rule direction) e → e.name ≡ UdpLength → Stays e
+    length-stays e among h = (needed-kept rule direction e admitted among (ap is_needed h), rw h refl)
 
-    head : (n : FieldName) → Contains (fields_of_stack stack.IpUdp) n → ((e : EntryData) → Contains (covered rule way) e → e.name ≡ n → Stays e) → Same way restored packet n
+    head : (n : FieldName) → Contains (fields_of_stack stack.IpUdp) n → ((e : EntryData) → Contains (covered rule direction) e → e.name ≡ n → Stays e) → Same direction restored packet n
     head n among h =
-        stays (field_in way restored n) (field_in way packet n)
-        (head-packet (stack_of rule) way restored r.restored_fields r.payload_from u r.is_restored n among)
-        (head-packet (stack_of rule) way packet r.fields r.payload_from u r.is_packet n among) refl
+        stays (field_in direction restored n) (field_in direction packet n)
+        (head-packet (stack_of rule) direction restored r.restored_fields r.payload_from u r.is_restored n among)
+        (head-packet (stack_of rule) direction packet r.fields r.payload_from u r.is_packet n among) refl
         (λ e used at. h e used (ap (λ (at : FieldAt). at.name) at))
 
-    head-in : (n : FieldName) → Contains (fields_of_stack stack.IpUdp) n → is_in_checksum n ≡ true → Same way restored packet n
+    head-in : (n : FieldName) → Contains (fields_of_stack stack.IpUdp) n → is_in_checksum n ≡ true → Same direction restored packet n
     head-in n among h = head n among (λ e used name. in-stays e used (ap is_in_checksum name ∙ h))
 
     bodies-coap : stack_of rule ≡ stack.IpUdpCoap → drop 48 restored ≡ drop 48 packet
     bodies-coap s =
-        let here : IsCoapPacket way restored r.restored_fields r.payload_from = subst (λ (of : Stack). PacketOf of way restored r.restored_fields r.payload_from) s r.is_restored in
-        let there : IsCoapPacket way packet r.fields r.payload_from = subst (λ (of : Stack). PacketOf of way packet r.fields r.payload_from) s r.is_packet in
+        let here : IsCoapPacket direction restored r.restored_fields r.payload_from = subst (λ (of : Stack). PacketOf of direction restored r.restored_fields r.payload_from) s r.is_restored in
+        let there : IsCoapPacket direction packet r.fields r.payload_from = subst (λ (of : Stack). PacketOf of direction packet r.fields r.payload_from) s r.is_packet in
         let messages : here.message_fields ≡ there.message_fields =
         fields-one here.message_fields there.message_fields
-        (message_ats way restored packet here.message_fields there.message_fields
+        (message_ats direction restored packet here.message_fields there.message_fields
         (ap (map (λ (f : FieldValue). f.at)) (sym here.its_fields) ∙ r.same_fields ∙ ap (map (λ (f : FieldValue). f.at)) there.its_fields))
         (λ f g x y at.
-        stays f g (message-field way restored r.restored_fields r.payload_from f here x) (message-field way packet r.fields r.payload_from g there y) at
+        stays f g (message-field direction restored r.restored_fields r.payload_from f here x) (message-field direction packet r.fields r.payload_from g there y) at
         (λ e used own.
         in-stays e used
         (coap-in e.name
-        (ap (λ (at : FieldAt). same_layer (layer_of at.name) layer.Coap) own ∙ message_coap way restored r.restored_fields r.payload_from f here x))))
+        (ap (λ (at : FieldAt). same_layer (layer_of at.name) layer.Coap) own ∙ message_coap direction restored r.restored_fields r.payload_from f here x))))
         in
         let payload : drop here.message_from (drop 48 restored) ≡ drop there.message_from (drop 48 packet) =
         drop-drop here.message_from 48 restored ∙ ap (λ n. drop n restored) (sym here.its_payload) ∙ r.same_payload
@@ -254,7 +254,7 @@ module _ (rule : RuleData) (iids : Iids) (way : Direction) (packet restored : Li
     bodies =
         elim (stack-cases (stack_of rule)) [
           | inl without ↦
-              let place : r.payload_from ≡ 48 = (PacketOf-fields (stack_of rule) way packet r.fields r.payload_from without r.is_packet).its_payload ∙ udp-size (stack_of rule) u in
+              let place : r.payload_from ≡ 48 = (PacketOf-fields (stack_of rule) direction packet r.fields r.payload_from without r.is_packet).its_payload ∙ udp-size (stack_of rule) u in
               subst (λ n. drop n restored ≡ drop n packet) place r.same_payload
           | inr s ↦ bodies-coap s
         ]
@@ -262,38 +262,38 @@ module _ (rule : RuleData) (iids : Iids) (way : Direction) (packet restored : Li
     same_checksum : checksum_of restored ≡ checksum_of packet
     same_checksum =
         sums-same restored packet
-        (addresses-same way restored packet b a (head-in IpDevPrefix (6, omega arith, refl) refl) (head-in IpDevIid (7, omega arith, refl) refl) (head-in IpAppPrefix (8, omega arith, refl) refl) (head-in IpAppIid (9, omega arith, refl) refl))
-        (ports-same way restored packet b a (head-in UdpDevPort (10, omega arith, refl) refl) (head-in UdpAppPort (11, omega arith, refl) refl) (head UdpLength (12, omega arith, refl) length-stays))
+        (addresses-same direction restored packet b a (head-in IpDevPrefix (6, omega arith, refl) refl) (head-in IpDevIid (7, omega arith, refl) refl) (head-in IpAppPrefix (8, omega arith, refl) refl) (head-in IpAppIid (9, omega arith, refl) refl))
+        (ports-same direction restored packet b a (head-in UdpDevPort (10, omega arith, refl) refl) (head-in UdpAppPort (11, omega arith, refl) refl) (head UdpLength (12, omega arith, refl) length-stays))
         bodies
-        (omega (arith, udp-long (stack_of rule) way restored r.restored_fields r.payload_from u r.is_restored, udp-long (stack_of rule) way packet r.fields r.payload_from u r.is_packet, length-drop 48 restored, length-drop 48 packet, ap (λ (bytes : List ℕ). length bytes) bodies))
+        (omega (arith, udp-long (stack_of rule) direction restored r.restored_fields r.payload_from u r.is_restored, udp-long (stack_of rule) direction packet r.fields r.payload_from u r.is_packet, length-drop 48 restored, length-drop 48 packet, ap (λ (bytes : List ℕ). length bytes) bodies))
 
   -- a checksum that is computed
-  checksum-dropped : (e : EntryData) → Contains (covered rule way) e → is_lossy e.operator e.action ≡ false → is_computed_checksum e ≡ true → kept_value (checksum_of restored) e (value_of r.fields (field_of e)) ≢ value_of r.fields (field_of e) → Contains (dropped_fields rule way) (field_of e)
+  checksum-dropped : (e : EntryData) → Contains (covered rule direction) e → is_lossy e.operator e.action ≡ false → is_computed_checksum e ≡ true → kept_value (checksum_of restored) e (value_of r.fields (field_of e)) ≢ value_of r.fields (field_of e) → Contains (dropped_fields rule direction) (field_of e)
   checksum-dropped e among l c differs =
       let name : e.name ≡ UdpChecksum = same_name-true e.name UdpChecksum (and_parts (same_name e.name UdpChecksum) (is_compute e.action) c).0 in
       let there = m.matches.same_set.each_entry e among in
-      let u : HasUdp (stack_of rule) = udp-at (stack_of rule) way packet m.fields m.payload_from there.0 m.is_packet there.1 (ap (λ (at : FieldAt). at.name) (sym there.2) ∙ name) in
-      let holds = EntryHolds-from_IsAdmitted rule admitted e (unfilter (λ d. covers d.direction way) rule.entries e among).0 in
+      let u : HasUdp (stack_of rule) = udp-at (stack_of rule) direction packet m.fields m.payload_from there.0 m.is_packet there.1 (ap (λ (at : FieldAt). at.name) (sym there.2) ∙ name) in
+      let holds = EntryHolds-from_IsAdmitted rule admitted e (unfilter (λ d. covers d.direction direction) rule.entries e among).0 in
       let at : field_of e ≡ at_name UdpChecksum = first_position e holds.shape (ap is_option name) ∙ ap at_name name in
-      let computes : computes_checksum rule way ≡ true = some_passes is_computed_checksum (covered rule way) e among c in
-      elim (cases_Bool (list_any (λ f. is_in_checksum f.name) (lossy_fields rule way))) [
+      let computes : computes_checksum rule direction ≡ true = some_passes is_computed_checksum (covered rule direction) e among c in
+      elim (cases_Bool (list_any (λ f. is_in_checksum f.name) (lossy_fields rule direction))) [
         | inl t ↦
-            subst (Contains (dropped_fields rule way)) (sym at)
-            (last-more (computes_checksum rule way && list_any (λ f. is_in_checksum f.name) (lossy_fields rule way)) (lossy_fields rule way) (at_name UdpChecksum)
-            (and_from (computes_checksum rule way) (list_any (λ f. is_in_checksum f.name) (lossy_fields rule way)) computes t))
+            subst (Contains (dropped_fields rule direction)) (sym at)
+            (last-more (computes_checksum rule direction && list_any (λ f. is_in_checksum f.name) (lossy_fields rule direction)) (lossy_fields rule direction) (at_name UdpChecksum)
+            (and_from (computes_checksum rule direction) (list_any (λ f. is_in_checksum f.name) (lossy_fields rule direction)) computes t))
         | inr clear ↦
             let own : value_of r.fields (field_of e) ≡ kept_value (checksum_of packet) e (value_of r.fields (field_of e)) =
-            subst (λ (all : List FieldValue). value_of all (field_of e) ≡ kept_value (checksum_of packet) e (value_of all (field_of e))) (sym same_fields) (own-checksum rule iids way packet m e among l)
+            subst (λ (all : List FieldValue). value_of all (field_of e) ≡ kept_value (checksum_of packet) e (value_of all (field_of e))) (sym same_fields) (own-checksum rule iids direction packet m e among l)
             in
             absurd (differs (ap (λ n. kept_value n e (value_of r.fields (field_of e))) (same_checksum u clear) ∙ sym own))
       ]
 
-  dropped-entry : (e : EntryData) → Contains (covered rule way) e → kept_value (checksum_of restored) e (value_of r.fields (field_of e)) ≢ value_of r.fields (field_of e) → Contains (dropped_fields rule way) (field_of e)
+  dropped-entry : (e : EntryData) → Contains (covered rule direction) e → kept_value (checksum_of restored) e (value_of r.fields (field_of e)) ≢ value_of r.fields (field_of e) → Contains (dropped_fields rule direction) (field_of e)
   dropped-entry e among differs =
       elim (cases_Bool (is_lossy e.operator e.action)) [
         | inl l ↦
-            among-more (computes_checksum rule way && list_any (λ f. is_in_checksum f.name) (lossy_fields rule way)) (lossy_fields rule way) (at_name UdpChecksum) (field_of e)
-            (lossy-listed rule way e among l)
+            among-more (computes_checksum rule direction && list_any (λ f. is_in_checksum f.name) (lossy_fields rule direction)) (lossy_fields rule direction) (at_name UdpChecksum) (field_of e)
+            (lossy-listed rule direction e among l)
         | inr l ↦
             elim (cases_Bool (is_computed_checksum e)) [
               | inl c ↦ checksum-dropped e among l c differs
@@ -301,12 +301,12 @@ module _ (rule : RuleData) (iids : Iids) (way : Direction) (packet restored : Li
             ]
       ]
 
-  pub differs-dropped : (f : FieldValue) → Contains r.restored_fields f → f.value ≢ value_of r.fields f.at → Contains (dropped_fields rule way) f.at
+  pub differs-dropped : (f : FieldValue) → Contains r.restored_fields f → f.value ≢ value_of r.fields f.at → Contains (dropped_fields rule direction) f.at
   differs-dropped f among differs =
       let e = entry f among in
-      subst (Contains (dropped_fields rule way)) e.2
+      subst (Contains (dropped_fields rule direction)) e.2
       (dropped-entry e.0 e.1 (λ same. differs (new-value f e.0 among e.1 e.2 ∙ same ∙ ap (value_of r.fields) e.2)))
 
 pub differs_only_where_dropped : DiffersOnlyWhereDropped
-differs_only_where_dropped rule iids way packet restored admitted a b m r f among differs =
-    differs-dropped rule iids way packet restored admitted a b m r f among differs
+differs_only_where_dropped rule iids direction packet restored admitted a b m r f among differs =
+    differs-dropped rule iids direction packet restored admitted a b m r f among differs

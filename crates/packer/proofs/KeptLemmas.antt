@@ -124,11 +124,11 @@ filled-kept iids of packet e value passes among agrees lossy checksum =
           let names : (same_name e.name IpPayloadLength || same_name e.name UdpLength) ≡ true =
           computed_names e.name (subst (λ a. is_computed_by a e.name ≡ true) (is_compute-true e.action c) passes.computed) other
           in
-          let filled : is_computed_length e ≡ true = rw (c, names) refl in
-          rw filled (sym (compute-made iids (computed_over of packet) e value (length packet - 40) c (length-computed of packet e.name (among c) names) agrees.restored_holds))
+          let with_lengths : is_computed_length e ≡ true = rw (c, names) refl in
+          rw with_lengths (sym (compute-made iids (computed_over of packet) e value (length packet - 40) c (length-computed of packet e.name (among c) names) agrees.restored_holds))
       | inr c ↦
-          let filled : is_computed_length e ≡ false = rw c refl in
-          rw filled (restored_value-agrees iids (computed_over of packet) e value passes.pair lossy c agrees)
+          let with_lengths : is_computed_length e ≡ false = rw c refl in
+          rw with_lengths (restored_value-agrees iids (computed_over of packet) e value passes.pair lossy c agrees)
     ]
 
 -- the operator holds of what is restored
@@ -146,17 +146,17 @@ holds-restored iids of computed e value passes agrees =
     ]
 
 -- the value of an entry's field agrees with it
-pub agrees-at : (rule : RuleData) (iids : Iids) (way : Direction) (fields : List FieldValue) (computed : Computed) (e : EntryData) → Matches rule iids way fields computed → Contains (covered rule way) e → Agrees iids computed e (value_of fields (field_of e))
-agrees-at rule iids way fields computed e matches among =
+pub agrees-at : (rule : RuleData) (iids : Iids) (direction : Direction) (fields : List FieldValue) (computed : Computed) (e : EntryData) → Matches rule iids direction fields computed → Contains (covered rule direction) e → Agrees iids computed e (value_of fields (field_of e))
+agrees-at rule iids direction fields computed e matches among =
     let there = matches.same_set.each_entry e among in
     let g = value_of-there fields there.0 there.1 in
     let value : value_of fields (field_of e) ≡ g.0.value = ap (value_of fields) there.2 ∙ g.3 in
     subst (Agrees iids computed e) (sym value) (matches.agrees g.0 e g.1 among (there.2 ∙ sym g.2))
 
 -- a needed field isn't dropped
-pub needed-kept : (rule : RuleData) (way : Direction) (e : EntryData) → IsAdmitted rule → Contains (covered rule way) e → is_needed e.name ≡ true → is_lossy e.operator e.action ≡ false
-needed-kept rule way e admitted among h =
-    let holds = EntryHolds-from_IsAdmitted rule admitted e (unfilter (λ d. covers d.direction way) rule.entries e among).0 in
+pub needed-kept : (rule : RuleData) (direction : Direction) (e : EntryData) → IsAdmitted rule → Contains (covered rule direction) e → is_needed e.name ≡ true → is_lossy e.operator e.action ≡ false
+needed-kept rule direction e admitted among h =
+    let holds = EntryHolds-from_IsAdmitted rule admitted e (unfilter (λ d. covers d.direction direction) rule.entries e among).0 in
     elim (and_cases (is_lossy e.operator e.action) (is_needed e.name) holds.needed) [
       | inl l ↦ l
       | inr n ↦ absurd (true≢false (sym h ∙ n))

@@ -24,6 +24,8 @@ pub mod KeptLemmas
 pub mod RestoredLemmas
 pub mod OneRestoredLemmas
 pub mod PutLemmas
+pub mod WholeLemmas
+pub mod ListedLemmas
 pub mod CoapPutLemmas
 pub mod PutPacketLemmas
 pub mod CoapRestoredLemmas
@@ -32,7 +34,7 @@ pub mod HeadersLemmas
 pub mod FirstLemmas
 pub mod ShorterLemmas
 pub mod SizedFieldsLemmas
-pub mod FormLemmas
+pub mod SchcPacketLemmas
 pub mod ChosenLemmas
 pub mod CoapOneLemmas
 pub mod ReadBackLemmas
@@ -48,3 +50,5 @@ pub mod SuspectLemmas
 pub mod RoomLemmas
 pub mod BoundLemmas
 pub mod SaysLemmas
+pub mod AgreeLemmas
+pub mod PackedLemmas

@@ -108,11 +108,11 @@ message-right m most h =
     (options_right (length m.token) most 0 0 m.options (omega (arith, options_within m, h)))
 
 -- the bits of the token
-tkl_value : (way : Direction) (packet : List ℕ) (m : Message) → value_of (fields_in stack.IpUdp way packet ++ fields_of_message m) (at_name CoapTkl) ≡ number_bits 4 (length m.token)
+tkl_value : (direction : Direction) (packet : List ℕ) (m : Message) → value_of (fields_in stack.IpUdp direction packet ++ fields_of_message m) (at_name CoapTkl) ≡ number_bits 4 (length m.token)
 unfolding fields_in fields_of_message
 tkl_value Up packet m = refl
 tkl_value Down packet m = refl
 
-pub message-token_bits : (way : Direction) (packet : List ℕ) (m : Message) → IsMessage m → token_bits (fields_in stack.IpUdp way packet ++ fields_of_message m) ≡ 8 * length m.token
-message-token_bits way packet m h =
-    ap (λ (bits : List Bool). 8 * bits_value bits) (tkl_value way packet m) ∙ ap (λ n. 8 * n) (bits_value-number_bits 4 (length m.token) (omega (arith, h.token)))
+pub message-token_bits : (direction : Direction) (packet : List ℕ) (m : Message) → IsMessage m → token_bits (fields_in stack.IpUdp direction packet ++ fields_of_message m) ≡ 8 * length m.token
+message-token_bits direction packet m h =
+    ap (λ (bits : List Bool). 8 * bits_value bits) (tkl_value direction packet m) ∙ ap (λ n. 8 * n) (bits_value-number_bits 4 (length m.token) (omega (arith, h.token)))

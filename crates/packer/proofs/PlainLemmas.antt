@@ -9,7 +9,8 @@ use Rattle.rule_model.specs.Data.{RuleData}
 use Rattle.rule_model.specs.Cover.{covered, stack_of}
 use Rattle.ip_udp_fields.specs.Layout.{IsWithoutCoap}
 use Rattle.ip_udp_fields.specs.Join.{contents}
-use Rattle.packer.specs.Unpacking.{body_of, message_faults, fixed_headers, headers_of, header_faults, operator_fault, made_faults, packet_faults, checksummed, joined, packet_around, packet_of}
+use Rattle.packer.specs.Unpacking.{body_of, fixed_headers, filled_headers, operator_fault, checksummed, headers_and_payload, packet_around, packet_of}
+use Rattle.packer.specs.Rebuilding.{message_tests, header_tests}
 
 pub without-of : (it of : Stack) → it ≡ of → (it ≡ stack.Ip) ⊎ (it ≡ stack.IpUdp) → IsWithoutCoap of
 without-of it of e (inl h) = subst IsWithoutCoap (sym h ∙ e) tt
@@ -20,7 +21,7 @@ body-plain stack.Ip fields payload h = refl
 body-plain stack.IpUdp fields payload h = refl
 body-plain stack.IpUdpCoap fields payload h = absurd h
 
-pub faults-plain : (of : Stack) (fields : List FieldValue) → IsWithoutCoap of → message_faults of fields ≡ []
+pub faults-plain : (of : Stack) (fields : List FieldValue) → IsWithoutCoap of → message_tests of fields ≡ []
 faults-plain stack.Ip fields h = refl
 faults-plain stack.IpUdp fields h = refl
 faults-plain stack.IpUdpCoap fields h = absurd h
@@ -41,14 +42,8 @@ contents-fixed stack.Ip fields size = refl
 contents-fixed stack.IpUdp fields size = refl
 contents-fixed stack.IpUdpCoap fields size = refl
 
-pub packet_of-plain : (rule : RuleData) (way : Direction) (fields : List FieldValue) (payload : List ℕ) → IsWithoutCoap (stack_of rule) → packet_of rule way fields payload ≡ checksummed rule way (joined (stack_of rule) way (headers_of rule way fields (length payload)) payload)
+pub packet_of-plain : (rule : RuleData) (direction : Direction) (fields : List FieldValue) (payload : List ℕ) → IsWithoutCoap (stack_of rule) → packet_of rule direction fields payload ≡ checksummed rule direction (headers_and_payload (stack_of rule) direction (filled_headers rule direction fields (length payload)) payload)
 unfolding packet_around
-packet_of-plain rule way fields payload h =
-    ap (packet_around rule way fields) (body-plain (stack_of rule) fields payload h)
-    ∙ ap (λ of. checksummed rule way (joined of way (headers_of rule way fields (length payload)) payload)) (fixed-plain (stack_of rule) h)
-
-pub packet_faults-plain : (rule : RuleData) (way : Direction) (fields : List FieldValue) (payload : List ℕ) → IsWithoutCoap (stack_of rule) → packet_faults rule way fields payload ≡ map (operator_fault fields) (covered rule way) ++ header_faults (stack_of rule) (headers_of rule way fields (length payload)) (length payload)
-unfolding packet_faults
-packet_faults-plain rule way fields payload h =
-    ap (λ body. map (operator_fault fields) (covered rule way) ++ made_faults rule way fields body) (body-plain (stack_of rule) fields payload h)
-    ∙ ap (λ faults. map (operator_fault fields) (covered rule way) ++ (faults ++ header_faults (stack_of rule) (headers_of rule way fields (length payload)) (length payload))) (faults-plain (stack_of rule) fields h)
+packet_of-plain rule direction fields payload h =
+    ap (packet_around rule direction fields) (body-plain (stack_of rule) fields payload h)
+    ∙ ap (λ of. checksummed rule direction (headers_and_payload of direction (filled_headers rule direction fields (length payload)) payload)) (fixed-plain (stack_of rule) h)

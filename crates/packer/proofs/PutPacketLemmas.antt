@@ -19,8 +19,8 @@ use Rattle.coap_fields.proofs.RankLemmas.{held-first}
 use Rattle.coap_fields.proofs.SizeLemmas.{size-refusal}
 use Rattle.coap_fields.specs.Join.{message_refusals, join_refusal, message_from}
 use Rattle.packer.specs.Ordering.{message_fields}
-use Rattle.packer.specs.Unpacking.{headers_of, body_of, wrong_field, front_faults, message_faults, packet_of}
-use Rattle.packer.specs.Rebuilding.{AreRestored}
+use Rattle.packer.specs.Unpacking.{filled_headers, body_of, wrong_field, packet_of}
+use Rattle.packer.specs.Rebuilding.{AreRestored, front_tests, message_tests}
 use Rattle.packer.proofs.FirstPartsLemmas.{append-none}
 use Rattle.packer.proofs.FilledLemmas.{first_held-map, none_of}
 use Rattle.packer.proofs.PlainLemmas.{body-plain}
@@ -36,34 +36,34 @@ stack-cases stack.IpUdp = inl tt
 stack-cases stack.IpUdpCoap = inr refl
 
 -- the message isn't refused, where the packet isn't too long
-pub message-right : (fields headers : List FieldValue) (payload : List ℕ) → first_held (message_faults stack.IpUdpCoap fields) ≡ None → first_held (contents stack.IpUdpCoap headers (length (body_of stack.IpUdpCoap fields payload))) ≡ None → join_refusal (message_fields fields) ≡ None
+pub message-right : (fields headers : List FieldValue) (payload : List ℕ) → first_held (message_tests stack.IpUdpCoap fields) ≡ None → first_held (contents stack.IpUdpCoap headers (length (body_of stack.IpUdpCoap fields payload))) ≡ None → join_refusal (message_fields fields) ≡ None
 message-right fields headers payload h right =
     let mine : List FieldValue = message_fields fields in
-    let both : first_held (front_faults fields ++ message_refusals mine) ≡ None =
-    none_of (first_held (front_faults fields ++ message_refusals mine)) (sym (first_held-map wrong_field (front_faults fields ++ message_refusals mine)) ∙ h)
+    let both : first_held (front_tests fields ++ message_refusals mine) ≡ None =
+    none_of (first_held (front_tests fields ++ message_refusals mine)) (sym (first_held-map wrong_field (front_tests fields ++ message_refusals mine)) ∙ h)
     in
     let n : ℕ = length (message_from mine payload) in
     let few = append-none (other_number headers IpVersion 6 ∷ other_number headers IpNextHeader 17 ∷ too_many (8 + n) ∷ []) (other_number headers IpPayloadLength (8 + n) ∷ other_number headers UdpLength (8 + n) ∷ []) right in
     let last = append-none (other_number headers IpVersion 6 ∷ other_number headers IpNextHeader 17 ∷ []) (too_many (8 + n) ∷ []) few.0 in
     let size = held-first (nat_lt 65535 (8 + n)) _ [] last.1 in
-    elim (size-refusal mine payload (append-none (front_faults fields) (message_refusals mine) both).1) [
+    elim (size-refusal mine payload (append-none (front_tests fields) (message_refusals mine) both).1) [
       | inl joins ↦ joins
       | inr long ↦ absurd (omega (arith, long, ltb-false 65535 (8 + n) size.0))
     ]
 
-pub put-packet : (rule : RuleData) (way : Direction) (fields : List FieldValue) (payload : List ℕ) → IsAdmitted rule → AreRestored rule way fields → IsSameSet rule way fields → AllPairs (λ f g. f.at ≢ g.at) fields → first_held (message_faults (stack_of rule) fields) ≡ None → first_held (contents (stack_of rule) (headers_of rule way fields (length (body_of (stack_of rule) fields payload))) (length (body_of (stack_of rule) fields payload))) ≡ None → AreBytes payload → IsPut rule way fields payload (packet_of rule way fields payload)
-put-packet rule way fields payload admitted restored same once message right bytes =
+pub put-packet : (rule : RuleData) (direction : Direction) (fields : List FieldValue) (payload : List ℕ) → IsAdmitted rule → AreRestored rule direction fields → IsSameSet rule direction fields → AllPairs (λ f g. f.at ≢ g.at) fields → first_held (message_tests (stack_of rule) fields) ≡ None → first_held (contents (stack_of rule) (filled_headers rule direction fields (length (body_of (stack_of rule) fields payload))) (length (body_of (stack_of rule) fields payload))) ≡ None → AreBytes payload → IsPut rule direction fields payload (packet_of rule direction fields payload)
+put-packet rule direction fields payload admitted restored same once message right bytes =
     elim (stack-cases (stack_of rule)) [
       | inl without ↦
-          let covers : Covers rule way = Covers-from_reads rule way admitted without restored.reading in
-          plain-put rule way fields payload (packet_of rule way fields payload) covers
-          (made-packet rule way fields payload covers restored
-          (subst (λ (body : List ℕ). first_held (contents (stack_of rule) (headers_of rule way fields (length body)) (length body)) ≡ None) (body-plain (stack_of rule) fields payload without) right)
+          let covers : Covers rule direction = Covers-from_reads rule direction admitted without restored.reading in
+          plain-put rule direction fields payload (packet_of rule direction fields payload) covers
+          (made-packet rule direction fields payload covers restored
+          (subst (λ (body : List ℕ). first_held (contents (stack_of rule) (filled_headers rule direction fields (length body)) (length body)) ≡ None) (body-plain (stack_of rule) fields payload without) right)
           bytes)
       | inr s ↦
-          (coap-put rule way fields payload s admitted restored same once
-          (message-right fields (headers_of rule way fields (length (body_of stack.IpUdpCoap fields payload))) payload
-          (subst (λ of. first_held (message_faults of fields) ≡ None) s message)
-          (subst (λ of. first_held (contents of (headers_of rule way fields (length (body_of of fields payload))) (length (body_of of fields payload))) ≡ None) s right)) bytes
-          (subst (λ of. first_held (contents (stack_of rule) (headers_of rule way fields (length (body_of of fields payload))) (length (body_of of fields payload))) ≡ None) s right)).put
+          (coap-put rule direction fields payload s admitted restored same once
+          (message-right fields (filled_headers rule direction fields (length (body_of stack.IpUdpCoap fields payload))) payload
+          (subst (λ of. first_held (message_tests of fields) ≡ None) s message)
+          (subst (λ of. first_held (contents of (filled_headers rule direction fields (length (body_of of fields payload))) (length (body_of of fields payload))) ≡ None) s right)) bytes
+          (subst (λ of. first_held (contents (stack_of rule) (filled_headers rule direction fields (length (body_of of fields payload))) (length (body_of of fields payload))) ≡ None) s right)).put
     ]

@@ -19,27 +19,27 @@ use Rattle.decompress.proofs.LawLemmas.{all_from}
 use Rattle.ip_udp_fields.specs.Layout.{IsWithoutCoap, bits_of}
 use Rattle.ip_udp_fields.specs.Fields.{at_name}
 use Rattle.ip_udp_fields.specs.Join.{value_in}
-use Rattle.packer.specs.Unpacking.{is_computed_length, filled_value, filled_field, filled, size_after, headers_of}
+use Rattle.packer.specs.Unpacking.{is_computed_length, filled_value, filled_field, with_lengths, size_after, filled_headers}
 use Rattle.packer.specs.Rebuilding.{AreRestored}
 use Rattle.packer.proofs.CoverLemmas.{Contains-map, passes_each, passes_some, mapped_value, value_in-there, Covers}
 use Rattle.packer.proofs.JoinedLemmas.{AreFound, AreWide}
 
 -- the values of the headers
 abbrev pub header_values : RuleData → Direction → List FieldValue → ℕ → FieldName → List Bool
-header_values rule way fields size name = value_of (headers_of rule way fields size) (at_name name)
+header_values rule direction fields size name = value_of (filled_headers rule direction fields size) (at_name name)
 
-pub headers-value : (rule : RuleData) (way : Direction) (fields : List FieldValue) (size : ℕ) (e : EntryData) → Covers rule way → Contains (covered rule way) e → value_of (headers_of rule way fields size) (field_of e) ≡ filled_value (size_after (stack_of rule) size) e (value_of fields (field_of e))
-unfolding filled
-headers-value rule way fields size e covers among =
-    mapped_value rule way (λ d. filled_value (size_after (stack_of rule) size) d (value_of fields (field_of d))) e covers.apart among
+pub headers-value : (rule : RuleData) (direction : Direction) (fields : List FieldValue) (size : ℕ) (e : EntryData) → Covers rule direction → Contains (covered rule direction) e → value_of (filled_headers rule direction fields size) (field_of e) ≡ filled_value (size_after (stack_of rule) size) e (value_of fields (field_of e))
+unfolding with_lengths
+headers-value rule direction fields size e covers among =
+    mapped_value rule direction (λ d. filled_value (size_after (stack_of rule) size) d (value_of fields (field_of d))) e covers.apart among
 
-pub headers-found : (rule : RuleData) (way : Direction) (fields : List FieldValue) (size : ℕ) → Covers rule way → AreFound (stack_of rule) (header_values rule way fields size) (headers_of rule way fields size)
-unfolding filled
-headers-found rule way fields size covers =
-    all_from (λ n. value_in (headers_of rule way fields size) n ≡ Some (header_values rule way fields size n)) (fields_of_stack (stack_of rule))
+pub headers-found : (rule : RuleData) (direction : Direction) (fields : List FieldValue) (size : ℕ) → Covers rule direction → AreFound (stack_of rule) (header_values rule direction fields size) (filled_headers rule direction fields size)
+unfolding with_lengths
+headers-found rule direction fields size covers =
+    all_from (λ n. value_in (filled_headers rule direction fields size) n ≡ Some (header_values rule direction fields size n)) (fields_of_stack (stack_of rule))
     (λ n among.
     let e = covers.each_name n among in
-    value_in-there (headers_of rule way fields size) n (filled_field (size_after (stack_of rule) size) fields e.0) (Contains-map (filled_field (size_after (stack_of rule) size) fields) (covered rule way) e.0 e.1) e.2)
+    value_in-there (filled_headers rule direction fields size) n (filled_field (size_after (stack_of rule) size) fields e.0) (Contains-map (filled_field (size_after (stack_of rule) size) fields) (covered rule direction) e.0 e.1) e.2)
 
 length_width : (name : FieldName) → (name ≡ IpPayloadLength) → bits_of name ≡ 16
 length_width name e = ap bits_of e
@@ -72,17 +72,17 @@ names_wide stack.Ip name h among = passes_each (λ n. is_some (width_of n)) ip_f
 names_wide stack.IpUdp name h among = passes_each (λ n. is_some (width_of n)) (ip_fields ++ udp_fields) refl name among
 names_wide stack.IpUdpCoap name h among = absurd h
 
-pub headers-wide : (rule : RuleData) (way : Direction) (fields : List FieldValue) (size : ℕ) → Covers rule way → AreRestored rule way fields → AreWide (stack_of rule) (header_values rule way fields size)
-headers-wide rule way fields size covers restored =
-    all_from (λ n. length (header_values rule way fields size n) ≡ bits_of n) (fields_of_stack (stack_of rule))
+pub headers-wide : (rule : RuleData) (direction : Direction) (fields : List FieldValue) (size : ℕ) → Covers rule direction → AreRestored rule direction fields → AreWide (stack_of rule) (header_values rule direction fields size)
+headers-wide rule direction fields size covers restored =
+    all_from (λ n. length (header_values rule direction fields size n) ≡ bits_of n) (fields_of_stack (stack_of rule))
     (λ n among.
     let e = covers.each_name n among in
     let name : e.0.name ≡ n = ap (λ (at : FieldAt). at.name) e.2 in
     let own : length (value_of fields (field_of e.0)) ≡ bits_of e.0.name =
     width_known (width_of e.0.name) (value_of fields (field_of e.0)) (names_wide (stack_of rule) e.0.name covers.without (covers.each_entry e.0 e.1).0) (restored.widths e.0 e.1)
     in
-    let value : header_values rule way fields size n ≡ filled_value (size_after (stack_of rule) size) e.0 (value_of fields (field_of e.0)) =
-    ap (value_of (headers_of rule way fields size)) (sym e.2) ∙ headers-value rule way fields size e.0 covers e.1
+    let value : header_values rule direction fields size n ≡ filled_value (size_after (stack_of rule) size) e.0 (value_of fields (field_of e.0)) =
+    ap (value_of (filled_headers rule direction fields size)) (sym e.2) ∙ headers-value rule direction fields size e.0 covers e.1
     in
     ap (λ (bits : List Bool). length bits) value ∙ filled_wide e.0 (size_after (stack_of rule) size) (value_of fields (field_of e.0)) own ∙ ap bits_of name)
 
@@ -92,9 +92,9 @@ udp_stack stack.IpUdp h among = refl
 udp_stack stack.IpUdpCoap h among = absurd h
 
 -- a checksum is computed in the stack with UDP alone
-pub computes-stack : (rule : RuleData) (way : Direction) → Covers rule way → computes_checksum rule way ≡ true → stack_of rule ≡ stack.IpUdp
-computes-stack rule way covers h =
-    let some = passes_some (λ e. same_name e.name UdpChecksum && is_compute e.action) (covered rule way) h in
+pub computes-stack : (rule : RuleData) (direction : Direction) → Covers rule direction → computes_checksum rule direction ≡ true → stack_of rule ≡ stack.IpUdp
+computes-stack rule direction covers h =
+    let some = passes_some (λ e. same_name e.name UdpChecksum && is_compute e.action) (covered rule direction) h in
     let parts = and_parts (same_name some.0.name UdpChecksum) (is_compute some.0.action) some.2 in
     udp_stack (stack_of rule) covers.without
     (subst (Contains (fields_of_stack (stack_of rule))) (same_name-true some.0.name UdpChecksum parts.0) (covers.each_entry some.0 some.1).0)

@@ -3,17 +3,17 @@ use Rattle.std.specs.Prelude.{◌≡◌, true, false, Option, Some, None}
 use Rattle.std.specs.Option.{option_map}
 use Rattle.std.proofs.Common.{refl, inl, inr}
 use Rattle.std.proofs.lemmas.Bool.{cases_Bool}
-use Rattle.packer.specs.Packing.{FormData, candidate_of, is_preferred, shorter, smaller}
+use Rattle.packer.specs.Packing.{SchcPacketData, candidate_of, is_preferred, shorter, smaller}
 
 -- the first is chosen, or the later one
-pub shorter-first : (f g : FormData) → is_preferred (candidate_of f) (candidate_of g) ≡ true → shorter (Some f) (Some g) ≡ Some f
+pub shorter-first : (f g : SchcPacketData) → is_preferred (candidate_of f) (candidate_of g) ≡ true → shorter (Some f) (Some g) ≡ Some f
 shorter-first f g h = rw h refl
 
-pub shorter-later : (f g : FormData) → is_preferred (candidate_of f) (candidate_of g) ≡ false → shorter (Some f) (Some g) ≡ Some g
+pub shorter-later : (f g : SchcPacketData) → is_preferred (candidate_of f) (candidate_of g) ≡ false → shorter (Some f) (Some g) ≡ Some g
 shorter-later f g h = rw h refl
 
 -- where neither is there, there is none
-pub shorter-both : (a b : Option FormData) → shorter a b ≡ None → (a ≡ None) × (b ≡ None)
+pub shorter-both : (a b : Option SchcPacketData) → shorter a b ≡ None → (a ≡ None) × (b ≡ None)
 shorter-both None b e = (refl, e)
 shorter-both (Some a) None e = absurd (cc)
 shorter-both (Some a) (Some b) e =
@@ -23,7 +23,7 @@ shorter-both (Some a) (Some b) e =
     ]
 
 -- the candidate of the form is that of the candidates
-pub shorter-candidate : (a b : Option FormData) → option_map candidate_of (shorter a b) ≡ smaller (option_map candidate_of a) (option_map candidate_of b)
+pub shorter-candidate : (a b : Option SchcPacketData) → option_map candidate_of (shorter a b) ≡ smaller (option_map candidate_of a) (option_map candidate_of b)
 shorter-candidate None b = refl
 shorter-candidate (Some a) None = refl
 shorter-candidate (Some a) (Some b) =

@@ -41,23 +41,23 @@ use Rattle.packer.proofs.MessageFieldsLemmas.{RightSize, message-above, message-
 use Rattle.packer.proofs.OrderedLemmas.{message-once}
 
 -- a field of another header is another one
-above_other : (way : Direction) (packet : List ℕ) (name : FieldName) (g : FieldValue) → is_below_coap name ≡ true → is_below_coap g.at.name ≡ false → (field_in way packet name).at ≢ g.at
-above_other way packet name g h k e =
+above_other : (direction : Direction) (packet : List ℕ) (name : FieldName) (g : FieldValue) → is_below_coap name ≡ true → is_below_coap g.at.name ≡ false → (field_in direction packet name).at ≢ g.at
+above_other direction packet name g h k e =
     let same : is_below_coap name ≡ is_below_coap g.at.name = ap (λ (at : FieldAt). is_below_coap at.name) e in
     absurd (cc)
 
-once_with : (way : Direction) (packet : List ℕ) (names : List FieldName) (message : List FieldValue) → are_apart names ≡ true → list_all is_below_coap names ≡ true → All (λ f. is_below_coap f.at.name ≡ false) message → AllPairs (λ f g. f.at ≢ g.at) message → AllPairs (λ f g. f.at ≢ g.at) (map (field_in way packet) names ++ message)
-once_with way packet [] message h b above once = once
-once_with way packet (name ∷ names) message h b above once =
+once_with : (direction : Direction) (packet : List ℕ) (names : List FieldName) (message : List FieldValue) → are_apart names ≡ true → list_all is_below_coap names ≡ true → All (λ f. is_below_coap f.at.name ≡ false) message → AllPairs (λ f g. f.at ≢ g.at) message → AllPairs (λ f g. f.at ≢ g.at) (map (field_in direction packet) names ++ message)
+once_with direction packet [] message h b above once = once
+once_with direction packet (name ∷ names) message h b above once =
     let parts : (list_all (λ other. not (same_name name other)) names ≡ true) × (are_apart names ≡ true) = and_parts (list_all (λ other. not (same_name name other)) names) (are_apart names) h in
     let below : (is_below_coap name ≡ true) × (list_all is_below_coap names ≡ true) = and_parts (is_below_coap name) (list_all is_below_coap names) b in
-    AllPairs-cons (λ f g. f.at ≢ g.at) (field_in way packet name) (map (field_in way packet) names ++ message)
-    (All-append (λ g. (field_in way packet name).at ≢ g.at) (map (field_in way packet) names) message
-    (All-map (λ g. (field_in way packet name).at ≢ g.at) (field_in way packet) names
-    (All-weaker (λ other. not (same_name name other) ≡ true) (λ other. (field_in way packet name).at ≢ (field_in way packet other).at) (other_at way packet name) names
+    AllPairs-cons (λ f g. f.at ≢ g.at) (field_in direction packet name) (map (field_in direction packet) names ++ message)
+    (All-append (λ g. (field_in direction packet name).at ≢ g.at) (map (field_in direction packet) names) message
+    (All-map (λ g. (field_in direction packet name).at ≢ g.at) (field_in direction packet) names
+    (All-weaker (λ other. not (same_name name other) ≡ true) (λ other. (field_in direction packet name).at ≢ (field_in direction packet other).at) (other_at direction packet name) names
     (AllPass-from_list_all (λ other. not (same_name name other)) names parts.0)))
-    (All-weaker (λ g. is_below_coap g.at.name ≡ false) (λ g. (field_in way packet name).at ≢ g.at) (λ g k. above_other way packet name g below.0 k) message above))
-    (once_with way packet names message parts.1 below.1 above once)
+    (All-weaker (λ g. is_below_coap g.at.name ≡ false) (λ g. (field_in direction packet name).at ≢ g.at) (λ g k. above_other direction packet name g below.0 k) message above))
+    (once_with direction packet names message parts.1 below.1 above once)
 
 token_right : (fields : List FieldValue) (count most : ℕ) (name : FieldName) (action : Action) (value : List Bool) → token_bits fields ≡ 8 * count → RightSize count most name value → TokenHolds fields name action value
 token_right fields count most CoapToken ValueSent value t r = r ∙ sym t
@@ -94,39 +94,39 @@ below_right count most (CoapOption number) value h = absurd (cc)
 below_right count most _ value h = tt
 
 -- no field stands twice
-pub once-coap : (way : Direction) (packet : List ℕ) (fields : List FieldValue) (from : ℕ) → IsCoapPacket way packet fields from → AllPairs (λ f g. f.at ≢ g.at) fields
+pub once-coap : (direction : Direction) (packet : List ℕ) (fields : List FieldValue) (from : ℕ) → IsCoapPacket direction packet fields from → AllPairs (λ f g. f.at ≢ g.at) fields
 unfolding fields_in
-once-coap way packet fields from p =
+once-coap direction packet fields from p =
     let m : Message = p.its_message.message in
-    let are : fields ≡ map (field_in way packet) (fields_in_packet_order stack.IpUdp way) ++ fields_of_message m = p.its_fields ∙ ap (λ (fs : List FieldValue). map (field_in way packet) (fields_in_packet_order stack.IpUdp way) ++ fs) p.its_message.its_fields in
+    let are : fields ≡ map (field_in direction packet) (fields_in_packet_order stack.IpUdp direction) ++ fields_of_message m = p.its_fields ∙ ap (λ (fs : List FieldValue). map (field_in direction packet) (fields_in_packet_order stack.IpUdp direction) ++ fs) p.its_message.its_fields in
     subst (AllPairs (λ f g. f.at ≢ g.at)) (sym are)
-    (once_with way packet (fields_in_packet_order stack.IpUdp way) (fields_of_message m) (names-apart stack.IpUdp way tt) (names-below stack.IpUdp way tt) (message-above m) (message-once m p.its_message.is_message))
+    (once_with direction packet (fields_in_packet_order stack.IpUdp direction) (fields_of_message m) (names-apart stack.IpUdp direction tt) (names-below stack.IpUdp direction tt) (message-above m) (message-once m p.its_message.is_message))
 
 -- a packet with CoAP
-pub sized-coap : (rule : RuleData) (iids : Iids) (way : Direction) (packet : List ℕ) (fields : List FieldValue) (from : ℕ) (computed : Computed) → IsAdmitted rule → IsCoapPacket way packet fields from → Matches rule iids way fields computed → IsSized rule way fields
+pub sized-coap : (rule : RuleData) (iids : Iids) (direction : Direction) (packet : List ℕ) (fields : List FieldValue) (from : ℕ) (computed : Computed) → IsAdmitted rule → IsCoapPacket direction packet fields from → Matches rule iids direction fields computed → IsSized rule direction fields
 unfolding fields_in
-sized-coap rule iids way packet fields from computed admitted p match =
+sized-coap rule iids direction packet fields from computed admitted p match =
     let m : Message = p.its_message.message in
-    let names : List FieldName = fields_in_packet_order stack.IpUdp way in
-    let heads : List FieldValue = map (field_in way packet) names in
+    let names : List FieldName = fields_in_packet_order stack.IpUdp direction in
+    let heads : List FieldValue = map (field_in direction packet) names in
     let message : List FieldValue = fields_of_message m in
     let are : fields ≡ heads ++ message = p.its_fields ∙ ap (λ (fs : List FieldValue). heads ++ fs) p.its_message.its_fields in
-    let within : AllByRecursion (λ n. length (field_bits way packet n) ≡ bits_of n) names = lengths stack.IpUdp way packet names (header_size-is_packet stack.IpUdp packet p.is_udp) (fields_in_packet_order-within stack.IpUdp way tt) in
+    let within : AllByRecursion (λ n. length (field_bits direction packet n) ≡ bits_of n) names = lengths stack.IpUdp direction packet names (header_size-is_packet stack.IpUdp packet p.is_udp) (fields_in_packet_order-within stack.IpUdp direction tt) in
     let most : ℕ = length (drop 48 packet) in
     let small : most ≤ 65535 = omega (arith, length-drop 48 packet, size_after-below packet p.is_udp.ipv6) in
     let spelling : length (spelled m) ≤ most = omega (arith, ap (λ (bytes : List ℕ). length bytes) p.its_message.its_spelling) in
     let right : All (λ f. RightSize (length m.token) most f.at.name f.value) fields =
     subst (All (λ f. RightSize (length m.token) most f.at.name f.value)) (sym are)
     (All-append (λ f. RightSize (length m.token) most f.at.name f.value) heads message
-    (All-weaker (λ f. is_below_coap f.at.name ≡ true) (λ f. RightSize (length m.token) most f.at.name f.value) (λ f h. below_right (length m.token) most f.at.name f.value h) heads (fields-below stack.IpUdp way packet tt))
+    (All-weaker (λ f. is_below_coap f.at.name ≡ true) (λ f. RightSize (length m.token) most f.at.name f.value) (λ f h. below_right (length m.token) most f.at.name f.value h) heads (fields-below stack.IpUdp direction packet tt))
     (message-right m most spelling))
     in
-    let bits : token_bits fields ≡ 8 * length m.token = ap token_bits are ∙ message-token_bits way packet m p.its_message.is_message in
+    let bits : token_bits fields ≡ 8 * length m.token = ap token_bits are ∙ message-token_bits direction packet m p.its_message.is_message in
     record {
-      each_once = once-coap way packet fields from p;
+      each_once = once-coap direction packet fields from p;
       width_holds = λ f c.
           All-contains (λ f. WidthHolds f.at.name f.value) fields f (subst (All (λ f. WidthHolds f.at.name f.value)) (sym are)
-          (All-append (λ f. WidthHolds f.at.name f.value) heads message (widths_along way packet names within) (message-wide m))) c;
+          (All-append (λ f. WidthHolds f.at.name f.value) heads message (widths_along direction packet names within) (message-wide m))) c;
       sendable = λ f e c d same.
           let named : e.name ≡ f.at.name = ap (λ (at : FieldAt). at.name) same in
           let own : RightSize (length m.token) most e.name f.value =
@@ -135,6 +135,6 @@ sized-coap rule iids way packet fields from computed admitted p match =
           record {
             length_holds = (match.agrees f e c d same).length_holds;
             token_holds = token_right fields (length m.token) most e.name e.action f.value bits own;
-            size_holds = size_right (length m.token) most e.name e.length e.action e.operator e.targets f.value small own (kind_of rule admitted e (of_rule rule way e d)) (EntryHolds-from_IsAdmitted rule admitted e (of_rule rule way e d)).msb;
+            size_holds = size_right (length m.token) most e.name e.length e.action e.operator e.targets f.value small own (kind_of rule admitted e (of_rule rule direction e d)) (EntryHolds-from_IsAdmitted rule admitted e (of_rule rule direction e d)).msb;
           };
     }

@@ -31,7 +31,7 @@ use Rattle.editions.specs.declared.listed.Listed.{Listed}
 use Rattle.editions.specs.Data.{lookup}
 use Rattle.packer.specs.declared.choosing.Candidate.{Candidate}
 use Rattle.packer.specs.Packets.{PacketOf, split_of, computed_over}
-use Rattle.packer.specs.Packing.{FormData, written_form, matched_form, form_by, candidate_of, candidate_by, candidate_under}
+use Rattle.packer.specs.Packing.{SchcPacketData, schc_packet_under, matching_schc_packet, schc_packet_by, candidate_of, candidate_by, candidate_under}
 use Rattle.packer.specs.Searching.{IsComputedFor, CanBeTried}
 use Rattle.packer.proofs.BoundLemmas.{IsShort, residue-short}
 use Rattle.packer.proofs.CoverLemmas.{some_passes}
@@ -53,53 +53,53 @@ all_same f g [] h = refl
 all_same f g (x ∷ xs) h =
     ap (λ b. b && list_all f xs) (h x (Contains-first x xs)) ∙ ap (λ b. g x && b) (all_same f g xs (λ y among. h y (Contains-rest x xs y among)))
 
-entries_same : (rule : RuleData) (iids : Iids) (way : Direction) (a b : Computed) (f : FieldValue) → a.payload_length ≡ b.payload_length → a.udp_length ≡ b.udp_length → (computes_checksum rule way ≡ true → a.checksum ≡ b.checksum) → entries_agree iids a (covered rule way) f ≡ entries_agree iids b (covered rule way) f
-entries_same rule iids way a b f p u c =
-    all_same (λ e. not (same_field (field_of e) f.at) || agrees iids a e f.value) (λ e. not (same_field (field_of e) f.at) || agrees iids b e f.value) (covered rule way)
+entries_same : (rule : RuleData) (iids : Iids) (direction : Direction) (a b : Computed) (f : FieldValue) → a.payload_length ≡ b.payload_length → a.udp_length ≡ b.udp_length → (computes_checksum rule direction ≡ true → a.checksum ≡ b.checksum) → entries_agree iids a (covered rule direction) f ≡ entries_agree iids b (covered rule direction) f
+entries_same rule iids direction a b f p u c =
+    all_same (λ e. not (same_field (field_of e) f.at) || agrees iids a e f.value) (λ e. not (same_field (field_of e) f.at) || agrees iids b e f.value) (covered rule direction)
     (λ e among.
     ap (λ r. not (same_field (field_of e) f.at) || (length_holds e.name e.length f.value && operator_holds e.operator e.targets f.value && r))
     (restored_same iids a b e.name e.action f.value p u
-    (λ t. c (some_passes (λ d. same_name d.name UdpChecksum && is_compute d.action) (covered rule way) e among t))))
+    (λ t. c (some_passes (λ d. same_name d.name UdpChecksum && is_compute d.action) (covered rule direction) e among t))))
 
 -- the rule matches with what is computed for it where it matches with all that is computed
-pub match-same : (rule : RuleData) (iids : Iids) (way : Direction) (fields : List FieldValue) (packet : List ℕ) (computed : Computed) → IsComputedFor rule way packet computed → does_match rule iids way fields computed ≡ does_match rule iids way fields (computed_over (stack_of rule) packet)
-match-same rule iids way fields packet computed h =
+pub match-same : (rule : RuleData) (iids : Iids) (direction : Direction) (fields : List FieldValue) (packet : List ℕ) (computed : Computed) → IsComputedFor rule direction packet computed → does_match rule iids direction fields computed ≡ does_match rule iids direction fields (computed_over (stack_of rule) packet)
+match-same rule iids direction fields packet computed h =
     let all : Computed = computed_over (stack_of rule) packet in
-    ap (λ agree. list_all (λ f. has_entry (covered rule way) f.at) fields && list_all (has_value fields) (covered rule way) && agree)
-    (all_same (entries_agree iids computed (covered rule way)) (entries_agree iids all (covered rule way)) fields
-    (λ f among. entries_same rule iids way computed all f h.payload_length h.udp_length h.checksum))
+    ap (λ agree. list_all (λ f. has_entry (covered rule direction) f.at) fields && list_all (has_value fields) (covered rule direction) && agree)
+    (all_same (entries_agree iids computed (covered rule direction)) (entries_agree iids all (covered rule direction)) fields
+    (λ f among. entries_same rule iids direction computed all f h.payload_length h.udp_length h.checksum))
 
-pub ipv6-of : (of : Stack) (way : Direction) (packet : List ℕ) (fields : List FieldValue) (from : ℕ) → PacketOf of way packet fields from → IsIpv6 packet
-ipv6-of stack.Ip way packet fields from p = p.is_packet
-ipv6-of stack.IpUdp way packet fields from p = p.is_packet.ipv6
-ipv6-of stack.IpUdpCoap way packet fields from p = p.is_udp.ipv6
+pub ipv6-of : (of : Stack) (direction : Direction) (packet : List ℕ) (fields : List FieldValue) (from : ℕ) → PacketOf of direction packet fields from → IsIpv6 packet
+ipv6-of stack.Ip direction packet fields from p = p.is_packet
+ipv6-of stack.IpUdp direction packet fields from p = p.is_packet.ipv6
+ipv6-of stack.IpUdpCoap direction packet fields from p = p.is_udp.ipv6
 
 -- the bits of the SCHC packet under a rule that matches
-pub record HasBits (rule : RuleData) (way : Direction) (packet : List ℕ) (split : SplitData) : Type 0 where
+pub record HasBits (rule : RuleData) (direction : Direction) (packet : List ℕ) (split : SplitData) : Type 0 where
   pub within : split.payload_from ≤ length packet
-  pub residue : length (residue_of rule way split.fields) < 2 ^ 62
+  pub residue : length (residue_of rule direction split.fields) < 2 ^ 62
   pub size : length packet < 2 ^ 17
-  pub bits : length (written_form rule way packet split).bits ≡ 8 + length (residue_of rule way split.fields) + 8 * (length packet - split.payload_from)
-  pub short : length packet ≤ 1500 → length (written_form rule way packet split).bits ≤ 12068
+  pub bits : length (schc_packet_under rule direction packet split).bits ≡ 8 + length (residue_of rule direction split.fields) + 8 * (length packet - split.payload_from)
+  pub short : length packet ≤ 1500 → length (schc_packet_under rule direction packet split).bits ≤ 12068
 
 two_sixty : 1000000 < 2 ^ 62
 two_sixty = omega arith
 
-pub has-bits : (rule : RuleData) (iids : Iids) (way : Direction) (packet : List ℕ) (split : SplitData) → IsAdmitted rule → AreBytes packet → split_of (stack_of rule) way packet ≡ Some split → does_match rule iids way split.fields (computed_over (stack_of rule) packet) ≡ true → HasBits rule way packet split
-has-bits rule iids way packet split admitted bytes e t =
-    let p : PacketOf (stack_of rule) way packet split.fields split.payload_from = split_of-packet (stack_of rule) way packet split bytes e in
-    let s : IsShort packet (length (residue_of rule way split.fields) + 8 * length (drop split.payload_from packet)) =
-    residue-short rule iids way packet split.fields split.payload_from (computed_over (stack_of rule) packet) admitted p (does_match-true rule iids way split.fields (computed_over (stack_of rule) packet) t)
+pub has-bits : (rule : RuleData) (iids : Iids) (direction : Direction) (packet : List ℕ) (split : SplitData) → IsAdmitted rule → AreBytes packet → split_of (stack_of rule) direction packet ≡ Some split → does_match rule iids direction split.fields (computed_over (stack_of rule) packet) ≡ true → HasBits rule direction packet split
+has-bits rule iids direction packet split admitted bytes e t =
+    let p : PacketOf (stack_of rule) direction packet split.fields split.payload_from = split_of-packet (stack_of rule) direction packet split bytes e in
+    let s : IsShort packet (length (residue_of rule direction split.fields) + 8 * length (drop split.payload_from packet)) =
+    residue-short rule iids direction packet split.fields split.payload_from (computed_over (stack_of rule) packet) admitted p (does_match-true rule iids direction split.fields (computed_over (stack_of rule) packet) t)
     in
-    let small = size_after-below packet (ipv6-of (stack_of rule) way packet split.fields split.payload_from p) in
-    let within : split.payload_from ≤ length packet = from-within (stack_of rule) way packet split.fields split.payload_from p in
+    let small = size_after-below packet (ipv6-of (stack_of rule) direction packet split.fields split.payload_from p) in
+    let within : split.payload_from ≤ length packet = from-within (stack_of rule) direction packet split.fields split.payload_from p in
     let rest : length (drop split.payload_from packet) ≡ length packet - split.payload_from = length-drop split.payload_from packet in
-    let bits : length (written_form rule way packet split).bits ≡ 8 + length (residue_of rule way split.fields) + 8 * (length packet - split.payload_from) =
+    let bits : length (schc_packet_under rule direction packet split).bits ≡ 8 + length (residue_of rule direction split.fields) + 8 * (length packet - split.payload_from) =
     omega (
       arith,
-      length-append (number_bits 8 rule.id) (residue_of rule way split.fields ++ octets (drop split.payload_from packet)),
+      length-append (number_bits 8 rule.id) (residue_of rule direction split.fields ++ octets (drop split.payload_from packet)),
       length-number_bits 8 rule.id,
-      length-append (residue_of rule way split.fields) (octets (drop split.payload_from packet)),
+      length-append (residue_of rule direction split.fields) (octets (drop split.payload_from packet)),
       length-octets (drop split.payload_from packet),
       rest,
     )
@@ -116,18 +116,18 @@ has-bits rule iids way packet split admitted bytes e t =
 abbrev with : ℕ → ℕ → Candidate
 with id bits = record { rule_id = id; bits = bits }
 
-pub tried-none : (rules : List Listed) (iids : Iids) (way : Direction) (packet : List ℕ) (split : SplitData) (computed : Computed) (id : ℕ) (listed : Listed) → lookup rules id ≡ Some listed → CanBeTried way packet split computed listed → does_match listed.rule iids way split.fields computed ≡ false → candidate_under rules iids way packet id ≡ None
-unfolding form_by
-tried-none rules iids way packet split computed id listed found can f =
-    let no : does_match listed.rule iids way split.fields (computed_over (stack_of listed.rule) packet) ≡ false = sym (match-same listed.rule iids way split.fields packet computed can.its_computed) ∙ f in
-    let form : form_by iids way packet listed ≡ None = rw (can.is_live, can.its_split, no) refl in
-    ap (candidate_by iids way packet) found ∙ ap (option_map candidate_of) form
+pub tried-none : (rules : List Listed) (iids : Iids) (direction : Direction) (packet : List ℕ) (split : SplitData) (computed : Computed) (id : ℕ) (listed : Listed) → lookup rules id ≡ Some listed → CanBeTried direction packet split computed listed → does_match listed.rule iids direction split.fields computed ≡ false → candidate_under rules iids direction packet id ≡ None
+unfolding schc_packet_by
+tried-none rules iids direction packet split computed id listed found can f =
+    let no : does_match listed.rule iids direction split.fields (computed_over (stack_of listed.rule) packet) ≡ false = sym (match-same listed.rule iids direction split.fields packet computed can.its_computed) ∙ f in
+    let schc_packet : schc_packet_by iids direction packet listed ≡ None = rw (can.is_live, can.its_split, no) refl in
+    ap (candidate_by iids direction packet) found ∙ ap (option_map candidate_of) schc_packet
 
-pub tried-some : (rules : List Listed) (iids : Iids) (way : Direction) (packet : List ℕ) (split : SplitData) (computed : Computed) (id bits : ℕ) (listed : Listed) → lookup rules id ≡ Some listed → CanBeTried way packet split computed listed → does_match listed.rule iids way split.fields computed ≡ true → bits ≡ length (written_form listed.rule way packet split).bits → candidate_under rules iids way packet id ≡ Some (with id bits)
-unfolding form_by
-tried-some rules iids way packet split computed id bits listed found can t b =
-    let yes : does_match listed.rule iids way split.fields (computed_over (stack_of listed.rule) packet) ≡ true = sym (match-same listed.rule iids way split.fields packet computed can.its_computed) ∙ t in
-    let form : form_by iids way packet listed ≡ Some (written_form listed.rule way packet split) = rw (can.is_live, can.its_split, yes) refl in
+pub tried-some : (rules : List Listed) (iids : Iids) (direction : Direction) (packet : List ℕ) (split : SplitData) (computed : Computed) (id bits : ℕ) (listed : Listed) → lookup rules id ≡ Some listed → CanBeTried direction packet split computed listed → does_match listed.rule iids direction split.fields computed ≡ true → bits ≡ length (schc_packet_under listed.rule direction packet split).bits → candidate_under rules iids direction packet id ≡ Some (with id bits)
+unfolding schc_packet_by
+tried-some rules iids direction packet split computed id bits listed found can t b =
+    let yes : does_match listed.rule iids direction split.fields (computed_over (stack_of listed.rule) packet) ≡ true = sym (match-same listed.rule iids direction split.fields packet computed can.its_computed) ∙ t in
+    let schc_packet : schc_packet_by iids direction packet listed ≡ Some (schc_packet_under listed.rule direction packet split) = rw (can.is_live, can.its_split, yes) refl in
     let own : listed.rule.id ≡ id = (found-listed rules id listed found).1 in
-    ap (candidate_by iids way packet) found ∙ ap (option_map candidate_of) form
-    ∙ ap (λ i. Some (with i (length (written_form listed.rule way packet split).bits))) own ∙ ap (λ n. Some (with id n)) (sym b)
+    ap (candidate_by iids direction packet) found ∙ ap (option_map candidate_of) schc_packet
+    ∙ ap (λ i. Some (with i (length (schc_packet_under listed.rule direction packet split).bits))) own ∙ ap (λ n. Some (with id n)) (sym b)

@@ -1,5 +1,5 @@
 -- Packets of a stack: their fields, their payload, and what is computed over them.
-use Rattle.std.specs.Prelude.{ℕ, ◌≡◌, ◌+◌, ◌-◌, ◌/◌, ◌==◌, ◌&&◌, Bool, nat_le, is_none, if◌then◌else◌, List, [], ◌∷◌, ◌++◌, length, drop, Option, Some, None, Result, Ok, Err}
+use Rattle.std.specs.Prelude.{ℕ, ◌≡◌, ◌+◌, ◌-◌, is_none, if◌then◌else◌, List, ◌++◌, length, drop, Option, Some, None, Result, Ok, Err}
 use Rattle.schc_ids.specs.declared.ends.Direction.{Direction}
 use Rattle.schc_ids.specs.declared.names.Stack.{Stack}
 use Rattle.schc_ids.specs.declared.names.Stack.TheVariants as stack
@@ -13,35 +13,26 @@ use Rattle.ip_udp_fields.specs.Checksum.{checksum_of}
 use Rattle.coap_fields.specs.Fields.{MessageOf}
 use Rattle.coap_fields.specs.Reading.{message_in}
 
--- the version of an IP packet: its first four bits (RFC 8200, section 3), 0 where there are none
-abbrev pub ip_version : List ℕ → ℕ
-ip_version [] = 0
-ip_version (byte ∷ bytes) = byte / 16
-
--- a packet with a whole IPv6 header: 40 bytes or more, and the version is 6 (RFC 8200, section 3)
-abbrev pub is_ipv6 : List ℕ → Bool
-is_ipv6 packet = nat_le 40 (length packet) && ip_version packet == 6
-
 -- a packet whose UDP datagram is a CoAP message (RFC 7252, section 3): these are its fields, those of the message last, and
 -- the message's payload begins at this byte
-pub record IsCoapPacket (way : Direction) (packet : List ℕ) (fields : List FieldValue) (payload_from : ℕ) : Type 0 where
+pub record IsCoapPacket (direction : Direction) (packet : List ℕ) (fields : List FieldValue) (payload_from : ℕ) : Type 0 where
   pub message_fields : List FieldValue
   pub message_from : ℕ
   pub is_udp : IsUdp packet
   pub its_message : MessageOf (drop 48 packet) message_fields message_from
-  pub its_fields : fields ≡ fields_in stack.IpUdp way packet ++ message_fields
+  pub its_fields : fields ≡ fields_in stack.IpUdp direction packet ++ message_fields
   pub its_payload : payload_from ≡ 48 + message_from
 
 -- the packet is one of the stack, these are its fields in packet order, and its payload begins at this byte
 abbrev pub PacketOf : Stack → Direction → List ℕ → List FieldValue → ℕ → Type 0
-PacketOf stack.Ip way packet fields payload_from = FieldsOf stack.Ip way packet fields payload_from
-PacketOf stack.IpUdp way packet fields payload_from = FieldsOf stack.IpUdp way packet fields payload_from
-PacketOf stack.IpUdpCoap way packet fields payload_from = IsCoapPacket way packet fields payload_from
+PacketOf stack.Ip direction packet fields payload_from = FieldsOf stack.Ip direction packet fields payload_from
+PacketOf stack.IpUdp direction packet fields payload_from = FieldsOf stack.IpUdp direction packet fields payload_from
+PacketOf stack.IpUdpCoap direction packet fields payload_from = IsCoapPacket direction packet fields payload_from
 
 -- the same as a function that computes: the fields and the place of the payload, where the packet is one of the stack
 abbrev pub split_headers : Stack → Direction → List ℕ → Option SplitData
-split_headers of way packet =
-    if is_none (refusal of packet) then Some (record { fields = fields_in of way packet; payload_from = header_size of }) else None
+split_headers of direction packet =
+    if is_none (refusal of packet) then Some (record { fields = fields_in of direction packet; payload_from = header_size of }) else None
 
 -- with the fields of the message, where the UDP datagram is one
 abbrev pub with_message : SplitData → Result SplitData ℕ → Option SplitData
@@ -54,9 +45,9 @@ split_message packet None = None
 split_message packet (Some headers) = with_message headers (message_in (drop 48 packet))
 
 unfoldable pub split_of : Stack → Direction → List ℕ → Option SplitData
-split_of stack.Ip way packet = split_headers stack.Ip way packet
-split_of stack.IpUdp way packet = split_headers stack.IpUdp way packet
-split_of stack.IpUdpCoap way packet = split_message packet (split_headers stack.IpUdp way packet)
+split_of stack.Ip direction packet = split_headers stack.Ip direction packet
+split_of stack.IpUdp direction packet = split_headers stack.IpUdp direction packet
+split_of stack.IpUdpCoap direction packet = split_message packet (split_headers stack.IpUdp direction packet)
 
 -- what is computed over a packet of the stack as it is: the number of bytes after the IPv6 header, which is that of the
 -- UDP datagram too, and the UDP checksum (RFC 8200, section 8.1)

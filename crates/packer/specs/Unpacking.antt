@@ -22,14 +22,15 @@ use Rattle.rule_model.specs.Tests.{operator_holds}
 use Rattle.editions.specs.declared.listed.Listed.{Listed}
 use Rattle.editions.specs.Data.{EditionData, lookup}
 use Rattle.ip_udp_fields.specs.Fields.{at_name}
-use Rattle.ip_udp_fields.specs.Join.{contents, other_number, header_bits}
+use Rattle.ip_udp_fields.specs.Join.{other_number, too_many, header_bits}
 use Rattle.ip_udp_fields.specs.Checksum.{checksum_of}
-use Rattle.coap_fields.specs.Join.{message_refusals, message_from}
+use Rattle.coap_fields.specs.Join.{gaps, message_from}
+use Rattle.coap_fields.specs.Join.{contents as message_contents}
 use Rattle.decompress.specs.Reading.{restore_at}
 use Rattle.packer.specs.UnpackedData.{UnpackedData}
-use Rattle.packer.specs.Packets.{is_ipv6}
+use Rattle.ip_udp_fields.specs.Fields.{has_ipv6_header}
 use Rattle.packer.specs.Ordering.{message_fields}
-use Rattle.packer.specs.Schc.{uncompressed}
+use Rattle.schc_ids.specs.Limits.{uncompressed_port}
 
 -- the operator of the entry doesn't hold of what was restored
 abbrev pub operator_fault : List FieldValue → EntryData → Bool × UnpackFault
@@ -47,8 +48,8 @@ abbrev pub filled_field : ℕ → List FieldValue → EntryData → FieldValue
 filled_field size fields e = record { at = field_of e; value = filled_value size e (value_of fields (field_of e)) }
 
 -- the restored fields with computed lengths filled in, where this many bytes follow the IPv6 header
-unfoldable pub filled : RuleData → Direction → ℕ → List FieldValue → List FieldValue
-filled rule way size fields = map (filled_field size fields) (covered rule way)
+unfoldable pub with_lengths : RuleData → Direction → ℕ → List FieldValue → List FieldValue
+with_lengths rule direction size fields = map (filled_field size fields) (covered rule direction)
 
 -- the bytes after the IPv6 header, of a packet of the stack with this many bytes of payload
 abbrev pub size_after : Stack → ℕ → ℕ
@@ -56,8 +57,8 @@ size_after stack.Ip size = size
 size_after _ size = 8 + size
 
 -- the fields of the headers, with a payload of this many bytes
-abbrev pub headers_of : RuleData → Direction → List FieldValue → ℕ → List FieldValue
-headers_of rule way fields size = filled rule way (size_after (stack_of rule) size) fields
+abbrev pub filled_headers : RuleData → Direction → List FieldValue → ℕ → List FieldValue
+filled_headers rule direction fields size = with_lengths rule direction (size_after (stack_of rule) size) fields
 
 -- the field that can't be joined
 abbrev pub wrong_field : JoinFault → UnpackFault
@@ -65,36 +66,43 @@ wrong_field (join.FieldAbsent at) = BadPacket at
 wrong_field (join.FieldWrong at) = BadPacket at
 wrong_field join.Memory = Memory
 
--- what the headers have to be: the version is 6, with UDP the next header is 17, the bytes after the IPv6 header are at most
--- 65,535, and each length is their number
-abbrev pub header_faults : Stack → List FieldValue → ℕ → List (Bool × UnpackFault)
-header_faults of fields size = map (λ condition. (condition.0, wrong_field condition.1)) (contents of fields size)
-
 -- what follows the headers that stand at fixed places: the payload, or the CoAP message of the restored fields and the payload
 abbrev pub body_of : Stack → List FieldValue → List ℕ → List ℕ
 body_of stack.IpUdpCoap fields payload = message_from (message_fields fields) payload
 body_of _ fields payload = payload
 
--- the headers in front of a CoAP message: the version is 6, and the next header is 17
-abbrev pub front_faults : List FieldValue → List (Bool × JoinFault)
-front_faults fields = other_number fields IpVersion 6 ∷ other_number fields IpNextHeader 17 ∷ []
+-- the version is 6 (RFC 8200, section 3), and with UDP the next header is 17 (RFC 768)
+abbrev pub number_faults : Stack → List FieldValue → List (Bool × JoinFault)
+number_faults stack.Ip fields = other_number fields IpVersion 6 ∷ []
+number_faults _ fields = other_number fields IpVersion 6 ∷ other_number fields IpNextHeader 17 ∷ []
 
--- with CoAP, the headers in front of the message are tried first, and then the message (RFC 7252, section 3), but for the sizes
--- of its options: with one that is too long to be spelled, too many bytes follow the IPv6 header
-abbrev pub message_faults : Stack → List FieldValue → List (Bool × UnpackFault)
-message_faults stack.IpUdpCoap fields =
-    map (λ condition. (condition.0, wrong_field condition.1)) (front_faults fields ++ message_refusals (message_fields fields))
+-- with CoAP (RFC 7252, section 3): the version is 1, the token length at most 8, the token is there exactly where its length is
+-- above 0, and has that length; and the positions of each option, in ascending number, count from 1 without a gap
+abbrev pub message_faults : Stack → List FieldValue → List (Bool × JoinFault)
+message_faults stack.IpUdpCoap fields = message_contents (message_fields fields) ++ gaps 0 0 (message_fields fields)
 message_faults _ fields = []
 
--- the conditions under which no operator fails, and there is yet no packet
-abbrev pub made_faults : RuleData → Direction → List FieldValue → List ℕ → List (Bool × UnpackFault)
-made_faults rule way fields body =
-    message_faults (stack_of rule) fields ++ header_faults (stack_of rule) (headers_of rule way fields (length body)) (length body)
+-- at most 65,535 bytes follow the IPv6 header, and each length of the headers is their number
+abbrev pub length_faults : Stack → List FieldValue → ℕ → List (Bool × JoinFault)
+length_faults stack.Ip headers size = too_many size ∷ other_number headers IpPayloadLength size ∷ []
+length_faults _ headers size =
+    too_many (8 + size)
+    ∷ other_number headers IpPayloadLength (8 + size)
+    ∷ other_number headers UdpLength (8 + size)
+    ∷ []
 
--- in their order, the conditions under which restored fields and a payload make no packet that the rule matches
+-- the conditions that aren't of operators, with this many bytes after the headers that stand at fixed places
+abbrev pub value_faults : RuleData → Direction → List FieldValue → ℕ → List (Bool × JoinFault)
+value_faults rule direction fields size =
+    number_faults (stack_of rule) fields
+    ++ (message_faults (stack_of rule) fields ++ length_faults (stack_of rule) (filled_headers rule direction fields size) size)
+
+-- in their order, the conditions under which restored fields and a payload make no packet that the rule matches: an operator
+-- of an entry that is used, in the rule's order, doesn't hold; or a value isn't what it has to be
 unfoldable pub packet_faults : RuleData → Direction → List FieldValue → List ℕ → List (Bool × UnpackFault)
-packet_faults rule way fields payload =
-    map (operator_fault fields) (covered rule way) ++ made_faults rule way fields (body_of (stack_of rule) fields payload)
+packet_faults rule direction fields payload =
+    map (operator_fault fields) (covered rule direction)
+    ++ map (λ condition. (condition.0, wrong_field condition.1)) (value_faults rule direction fields (length (body_of (stack_of rule) fields payload)))
 
 -- a number of 16 bits as two bytes
 abbrev pub two_bytes : ℕ → List ℕ
@@ -105,8 +113,8 @@ unfoldable pub with_checksum : List ℕ → List ℕ
 with_checksum packet = take 46 packet ++ (two_bytes (checksum_of packet) ++ drop 48 packet)
 
 -- the headers of the fields and the payload
-unfoldable pub joined : Stack → Direction → List FieldValue → List ℕ → List ℕ
-joined of way fields payload = bytes_of (padded (header_bits of way fields)) ++ payload
+unfoldable pub headers_and_payload : Stack → Direction → List FieldValue → List ℕ → List ℕ
+headers_and_payload of direction fields payload = bytes_of (padded (header_bits of direction fields)) ++ payload
 
 -- the headers that stand at fixed places
 abbrev pub fixed_headers : Stack → Stack
@@ -115,16 +123,16 @@ fixed_headers _ = stack.IpUdp
 
 -- the packet with what is computed over it: the checksum, where the rule computes it
 abbrev pub checksummed : RuleData → Direction → List ℕ → List ℕ
-checksummed rule way packet = if computes_checksum rule way then with_checksum packet else packet
+checksummed rule direction packet = if computes_checksum rule direction then with_checksum packet else packet
 
 -- the packet of the restored fields and of what follows the headers that stand at fixed places
 unfoldable pub packet_around : RuleData → Direction → List FieldValue → List ℕ → List ℕ
-packet_around rule way fields body =
-    checksummed rule way (joined (fixed_headers (stack_of rule)) way (headers_of rule way fields (length body)) body)
+packet_around rule direction fields body =
+    checksummed rule direction (headers_and_payload (fixed_headers (stack_of rule)) direction (filled_headers rule direction fields (length body)) body)
 
 -- the packet of the restored fields and the payload
 abbrev pub packet_of : RuleData → Direction → List FieldValue → List ℕ → List ℕ
-packet_of rule way fields payload = packet_around rule way fields (body_of (stack_of rule) fields payload)
+packet_of rule direction fields payload = packet_around rule direction fields (body_of (stack_of rule) fields payload)
 
 -- the first fault, or the packet
 abbrev pub packet_or : Option UnpackFault → List ℕ → Result (List ℕ) UnpackFault
@@ -132,32 +140,32 @@ packet_or (Some fault) packet = Err fault
 packet_or None packet = Ok packet
 
 abbrev pub rebuilt : RuleData → Direction → List FieldValue → List ℕ → Result (List ℕ) UnpackFault
-rebuilt rule way fields payload =
-    packet_or (first_held (packet_faults rule way fields payload)) (packet_of rule way fields payload)
+rebuilt rule direction fields payload =
+    packet_or (first_held (packet_faults rule direction fields payload)) (packet_of rule direction fields payload)
 
 -- the packet of what was read of the residue, and of the whole bytes behind it
 abbrev pub rebuilt_from : RuleData → Direction → Result (List FieldValue × List Bool) UnpackFault → Result (List ℕ) UnpackFault
-rebuilt_from rule way (Err fault) = Err fault
-rebuilt_from rule way (Ok read) = rebuilt rule way read.0 (bytes_of read.1)
+rebuilt_from rule direction (Err fault) = Err fault
+rebuilt_from rule direction (Ok read) = rebuilt rule direction read.0 (bytes_of read.1)
 
 -- the rule reads packets of the direction: it serves it
 abbrev pub reads : RuleData → Direction → Bool
-reads rule way = serves rule way
+reads rule direction = serves rule direction
 
 -- by a rule that is listed under the RuleID, if one is and serves the direction
 abbrev pub read_by : ℕ → Iids → Direction → Option Listed → List Bool → Result (List ℕ) UnpackFault
-read_by id iids way None bits = Err (UnknownRule id)
-read_by id iids way (Some listed) bits =
-    if reads listed.rule way then rebuilt_from listed.rule way (restore_at listed.rule iids way bits) else Err (UnknownRule id)
+read_by id iids direction None bits = Err (UnknownRule id)
+read_by id iids direction (Some listed) bits =
+    if reads listed.rule direction then rebuilt_from listed.rule direction (restore_at listed.rule iids direction bits) else Err (UnknownRule id)
 
 -- a packet that no rule compresses has a whole IPv6 header
 abbrev pub read_whole : List ℕ → Result (List ℕ) UnpackFault
-read_whole packet = if is_ipv6 packet then Ok packet else Err (BadPacket (at_name IpVersion))
+read_whole packet = if has_ipv6_header packet then Ok packet else Err (BadPacket (at_name IpVersion))
 
 -- what follows the RuleID
 abbrev pub read_under : EditionData → Iids → Direction → ℕ → List Bool → Result (List ℕ) UnpackFault
-read_under edition iids way id bits =
-    if id == uncompressed then read_whole (bytes_of bits) else read_by id iids way (lookup edition.rules id) bits
+read_under edition iids direction id bits =
+    if id == uncompressed_port then read_whole (bytes_of bits) else read_by id iids direction (lookup edition.rules id) bits
 
 -- with the RuleID under which it was read
 abbrev pub under : ℕ → Result (List ℕ) UnpackFault → Result UnpackedData UnpackFault
@@ -166,6 +174,6 @@ under id (Ok packet) = Ok (record { rule_id = id; packet = packet })
 
 -- the RuleID in the first 8 bits, and the packet; or the first cause why there is none
 unfoldable pub unpacked : EditionData → Iids → Direction → List Bool → Result UnpackedData UnpackFault
-unpacked edition iids way bits =
+unpacked edition iids direction bits =
     if nat_lt (length bits) 8 then Err (BadResidue 0 Short)
-    else under (bits_value (take 8 bits)) (read_under edition iids way (bits_value (take 8 bits)) (drop 8 bits))
+    else under (bits_value (take 8 bits)) (read_under edition iids direction (bits_value (take 8 bits)) (drop 8 bits))

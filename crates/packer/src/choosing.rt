@@ -11,7 +11,7 @@ ghost use Rattle.editions.specs.declared.listed.Listed.{Listed};
 ghost use Rattle.editions.specs.Data.{IsSound, lookup};
 ghost use Rattle.editions.specs.Suspects.{key_field, key_value, suspects};
 ghost use Rattle.packer.specs.Packets.{computed_over, split_of};
-ghost use Rattle.packer.specs.Packing.{candidate_under, is_preferred, smaller, smallest_of, written_form};
+ghost use Rattle.packer.specs.Packing.{candidate_under, is_preferred, smaller, smallest_of, schc_packet_under};
 ghost use Rattle.packer.specs.Searching.{
   CanAllBeTried,
   CanBeTried,
@@ -74,7 +74,7 @@ fn bits_under(rule: &Admitted, direction: Direction, packet: &[u8], split: &Spli
     requires admitted { IsAdmitted rule.now }
     requires split { split_of (stack_of rule.now) direction packet.now ≡ Some split.now }
     requires matching { (iids : Iids) × (does_match rule.now iids direction split.now.fields (computed_over (stack_of rule.now) packet.now) ≡ true) }
-    ensures { result ≡ length (written_form rule.now direction packet.now split.now).bits }
+    ensures { result ≡ length (schc_packet_under rule.now direction packet.now split.now).bits }
 {
     RULE_ID + residue_len(rule, direction, &split.fields) + 8 * (packet.len() - split.payload_from)
 }

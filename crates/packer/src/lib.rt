@@ -10,4 +10,4 @@ mod splits;
 mod unpacking;
 
 pub use packing::{Packed, pack};
-pub use unpacking::{Unpacked, is_ipv6, unpack};
+pub use unpacking::{Unpacked, unpack};

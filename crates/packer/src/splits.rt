@@ -1,6 +1,6 @@
 //! A packet split once: as one of IPv6, then with UDP, then with CoAP.
 
-ghost use Rattle.std.specs.Prelude.{◌≡◌, ◌≤◌, ◌++◌, false, length, drop, Some, IfOk, OnOk};
+ghost use Rattle.std.specs.Prelude.{◌≡◌, ◌≤◌, false, length, drop, Some, IfOk};
 ghost use Rattle.ip_udp_fields.specs.Fields.{IsIpv6, IsUdp};
 ghost use Rattle.coap_fields.specs.Reading.{message_in};
 ghost use Rattle.packer.specs.Packets.{split_of, with_message};
@@ -8,8 +8,7 @@ ghost use Rattle.packer.specs.Splits.{is_memory};
 ghost use Rattle.packer.specs.Searching.{where_split, cut_to};
 
 use ip_udp_fields::extend_to_udp;
-use rule_model::{FieldValue, Fields, Split, SplitFault};
-use schc_bits::CopyItem;
+use rule_model::{Split, SplitFault};
 use schc_ids::{Direction, Stack};
 use std::alloc::{AllocError, Global};
 
@@ -77,16 +76,6 @@ pub(crate) fn add_udp(
     }
 }
 
-/// Puts copies of the fields last.
-fn append(alloc: Global, fields: &mut Fields, more: &[FieldValue]) -> Result<(), AllocError>
-    ensures { OnOk result (fields.new.items ≡ fields.old.items ++ more.now) }
-{
-    for field in more {
-        fields.push(field.copy_item(alloc)?)?;
-    }
-    Ok(())
-}
-
 /// Puts the fields of a CoAP message behind those of UDP, and tells whether the datagram holds one.
 pub(crate) fn add_coap(alloc: Global, packet: &[u8], split: &mut Split) -> Result<bool, AllocError>
     requires udp { IsUdp packet.now }
@@ -95,10 +84,9 @@ pub(crate) fn add_coap(alloc: Global, packet: &[u8], split: &mut Split) -> Resul
     ensures kept { IfOk result (λ is. is ≡ false → split.new ≡ split.old) }
 {
     let (_, message) = packet.split_at(UDP_HEADERS);
-    match coap_fields::split(alloc, message) {
-        Ok(message) => {
-            append(alloc, &mut split.fields, message.fields.as_slice())?;
-            split.payload_from = UDP_HEADERS + message.payload_from;
+    match coap_fields::split_onto(alloc, message, &mut split.fields) {
+        Ok(payload_from) => {
+            split.payload_from = UDP_HEADERS + payload_from;
             Ok(true)
         }
         Err(fault) => {

@@ -1,11 +1,13 @@
 //! Reading a packet.
 
-ghost use Rattle.std.specs.Prelude.{◌≡◌, ◌≤◌, ◌*◌, ◌<◌, ◌⊎◌, true, Bool, List, length, drop, Ok, Err, IfOk, IfErr, IfSome, IfNone};
+ghost use Rattle.std.specs.Prelude.{◌≡◌, ◌≤◌, ◌*◌, ◌<◌, ◌⊎◌, true, Bool, List, length, drop, Some, Ok, Err, IfOk, IfErr, IfSome, IfNone};
 ghost use Rattle.schc_bits.specs.Bits.{bytes_of};
+ghost use Rattle.rule_model.specs.Cover.{covered};
+ghost use Rattle.editions.specs.declared.listed.Listed.{Listed};
 ghost use Rattle.editions.specs.Data.{IsSound, lookup};
 ghost use Rattle.decompress.specs.Reading.{restore_at};
-ghost use Rattle.packer.specs.Packets.{is_ipv6};
-ghost use Rattle.packer.specs.Rebuilding.{AreRestored};
+ghost use Rattle.ip_udp_fields.specs.Fields.{has_ipv6_header};
+ghost use Rattle.packer.specs.Rebuilding.{AreRestored, HasOptions, HasOptionsUnder};
 ghost use Rattle.packer.specs.Schc.{Decodes, NothingDecodes};
 ghost use Rattle.packer.specs.Unpacking.{
   read_by,
@@ -20,8 +22,10 @@ ghost use Rattle.packer.specs.Unpacking.{
 use crate::rebuilding::rebuild;
 use decompress::restore;
 use editions::Edition;
+use ip_udp_fields::has_ipv6_header;
 use rule_model::{Admitted, Fields};
 use schc_bits::{Bits, Octets, Part};
+use schc_ids::limits::UNCOMPRESSED;
 use schc_ids::{Direction, FieldAt, FieldName, Iids, ResidueFault, UnpackFault};
 use std::alloc::Global;
 use std::marker::Model;
@@ -41,9 +45,6 @@ impl Model for Unpacked {
     ghost view = { λ u. record { rule_id = u.rule_id; packet = u.packet.items } };
 }
 
-/// The RuleID of packets that no rule compresses (RFC 9011 section 5.1).
-const UNCOMPRESSED: u16 = 22;
-
 /// The bits of a RuleID.
 const RULE_ID: usize = 8;
 
@@ -52,17 +53,6 @@ const VERSION: FieldAt = FieldAt {
     position: 1,
 };
 
-/// Whether the packet has a whole IPv6 header: 40 bytes or more, and the first four bits are 6 (RFC
-/// 8200 section 3).
-pub fn is_ipv6(packet: &[u8]) -> bool
-    ensures { result ≡ is_ipv6 packet.now }
-{
-    match packet {
-        [first, ..] => packet.len() >= 40 && *first / 16 == 6,
-        [] => false,
-    }
-}
-
 /// A packet that no rule compresses: the whole bytes.
 fn read_whole(alloc: Global, bits: &Part<'_>) -> Result<Octets, UnpackFault>
     ensures ok { IfOk result (λ packet. read_whole (bytes_of bits.now) ≡ Ok packet.items) }
@@ -70,7 +60,7 @@ fn read_whole(alloc: Global, bits: &Part<'_>) -> Result<Octets, UnpackFault>
 {
     match bits.to_whole_bytes(alloc) {
         Ok(packet) => {
-            if is_ipv6(packet.as_slice()) {
+            if has_ipv6_header(packet.as_slice()) {
                 Ok(packet)
             } else {
                 Err(UnpackFault::BadPacket(VERSION))
@@ -89,6 +79,7 @@ fn read_payload(
     rest: &Part<'_>,
 ) -> Result<Octets, UnpackFault>
     requires { AreRestored rule.now direction fields.now.items }
+    ensures options { IfOk result (λ _. HasOptions (covered rule.now direction)) }
     ensures ok { IfOk result (λ packet. rebuilt rule.now direction fields.now.items (bytes_of rest.now) ≡ Ok packet.items) }
     ensures err { IfErr result (λ fault. (fault ≡ UnpackFault.Memory) ⊎ (rebuilt rule.now direction fields.now.items (bytes_of rest.now) ≡ Err fault)) }
 {
@@ -108,6 +99,7 @@ fn read_by(
 ) -> Result<Octets, UnpackFault>
     requires bits { 8 ≤ length bits.now }
     requires reads { reads rule.now direction ≡ true }
+    ensures options { IfOk result (λ _. HasOptions (covered rule.now direction)) }
     ensures ok { IfOk result (λ packet. rebuilt_from rule.now direction (restore_at rule.now iids direction (drop 8 bits.now)) ≡ Ok packet.items) }
     ensures err { IfErr result (λ fault. (fault ≡ UnpackFault.Memory)
         ⊎ (rebuilt_from rule.now direction (restore_at rule.now iids direction (drop 8 bits.now)) ≡ Err fault)) }
@@ -126,6 +118,7 @@ fn reader(edition: &Edition, id: u16, direction: Direction) -> Option<&Admitted>
     ensures none { IfNone result ((iids : Iids) → (bits : List Bool) → read_by id iids direction (lookup edition.now.rules id) bits ≡ Err (UnpackFault.UnknownRule id)) }
     ensures some { IfSome result (λ rule. (reads rule.now direction ≡ true) × ((iids : Iids) → (bits : List Bool)
         → read_by id iids direction (lookup edition.now.rules id) bits ≡ rebuilt_from rule.now direction (restore_at rule.now iids direction bits))) }
+    ensures listed { IfSome result (λ rule. (listed : Listed) → lookup edition.now.rules id ≡ Some listed → listed.rule ≡ rule.now) }
     ensures sound { IsSound edition.now }
 {
     let listed = edition.lookup(id)?;
@@ -149,10 +142,11 @@ fn read_under(
     ensures ok { IfOk result (λ packet. read_under edition.now iids direction id (drop 8 bits.now) ≡ Ok packet.items) }
     ensures err { IfErr result (λ fault. (fault ≡ UnpackFault.Memory)
         ⊎ (read_under edition.now iids direction id (drop 8 bits.now) ≡ Err fault)) }
+    ensures options { IfOk result (λ _. HasOptionsUnder edition.now direction id) }
     ensures sound { IsSound edition.now }
 {
     let rule = reader(edition, id, direction);
-    if id == UNCOMPRESSED {
+    if id == u16::from(UNCOMPRESSED) {
         return read_whole(alloc, &bits.as_part().after(RULE_ID));
     }
     match rule {
@@ -172,6 +166,7 @@ fn read(
 ) -> Result<Unpacked, UnpackFault>
     ensures ok { IfOk result (λ read. unpacked edition.now iids direction bits.now ≡ Ok read) }
     ensures err { IfErr result (λ fault. (fault ≡ UnpackFault.Memory) ⊎ (unpacked edition.now iids direction bits.now ≡ Err fault)) }
+    ensures options { IfOk result (λ read. HasOptionsUnder edition.now direction read.rule_id) }
     ensures sound { (length bits.now < 8) ⊎ IsSound edition.now }
 {
     if bits.len() < RULE_ID {

@@ -1,7 +1,7 @@
 //! Packets with CoAP, written and read row by row (RFC 8824).
 
 use crate::packing::{Row, as_wanted, packed};
-use crate::unpacking::{Form, Read, read_with};
+use crate::unpacking::{Read, SchcPacket, read_with};
 use rule_drafts::{
     BARE, Coap, DraftFault, Given, LONG_PATH, NO_MESSAGE, NO_MESSAGE_WHOLE, OTHER_ID, Sample,
     TEMPERATURE, WITH_TOKEN,
@@ -101,12 +101,12 @@ const ONE_WAY: [Row; 3] = [
 
 fn unpacked(alloc: Global, row: &Row, ones: usize) -> Result<Read, DraftFault> {
     let Row(rules, packet, _, count, digits) = *row;
-    let form = Form {
+    let schc_packet = SchcPacket {
         digits,
         count,
         ones,
     };
-    read_with(alloc, rules, form, packet)
+    read_with(alloc, rules, schc_packet, packet)
 }
 
 #[test]
@@ -197,12 +197,12 @@ const LACKING: [Bytes; 4] = [
 
 fn read_bytes(alloc: Global, row: &Bytes) -> Result<Read, DraftFault> {
     let Bytes(rule, digits, _) = *row;
-    let form = Form {
+    let schc_packet = SchcPacket {
         digits,
         count: digits.len().saturating_mul(4),
         ones: 0,
     };
-    read_with(alloc, &[rule], form, LONG_PATH)
+    read_with(alloc, &[rule], schc_packet, LONG_PATH)
 }
 
 #[test]

@@ -1,6 +1,7 @@
 //! What packets are written as, row by row.
 
-use packer::{is_ipv6, pack};
+use ip_udp_fields::has_ipv6_header;
+use packer::pack;
 use rule_drafts::{
     DraftFault, Given, OTHER_FLOW, OTHER_PREFIX, SENSOR, SENSOR_WHOLE, Sample, WRONG_CHECKSUM,
     WRONG_CHECKSUM_WHOLE, bytes_of_hex, edition_of,
@@ -72,7 +73,7 @@ fn write_with(
     let packet = bytes_of_hex(alloc, packet)?;
     let bytes = bytes_of_hex(alloc, bytes)?;
     let edition = edition_of(alloc, rules)?;
-    if !is_ipv6(&packet) {
+    if !has_ipv6_header(&packet) {
         return Ok(None);
     }
     let packed = pack(alloc, &edition, IIDS, Direction::Up, &packet)?;

@@ -12,7 +12,7 @@ const IIDS: Iids = Iids { dev: 1, app: 2 };
 
 /// The first `count` bits of the digits' bytes, and then this many ones.
 #[derive(Clone, Copy)]
-pub struct Form {
+pub struct SchcPacket {
     pub digits: &'static [u8],
     pub count: usize,
     pub ones: usize,
@@ -25,11 +25,16 @@ pub type Read = Result<(u16, bool), UnpackFault>;
 pub fn read_with(
     alloc: Global,
     rules: &[Given],
-    form: Form,
+    schc_packet: SchcPacket,
     packet: &[u8],
 ) -> Result<Read, DraftFault> {
     let packet = bytes_of_hex(alloc, packet)?;
-    let bits = bits_of_hex(alloc, form.digits, form.count, form.ones)?;
+    let bits = bits_of_hex(
+        alloc,
+        schc_packet.digits,
+        schc_packet.count,
+        schc_packet.ones,
+    )?;
     let edition = edition_of(alloc, rules)?;
     match unpack(alloc, &edition, IIDS, Direction::Up, &bits) {
         Ok(got) => Ok(Ok((got.rule_id, *got.packet.as_slice() == *packet))),
@@ -139,12 +144,12 @@ const WHOLE: [Row; 4] = [
 
 fn unpacked(alloc: Global, row: &Row) -> Result<Read, DraftFault> {
     let Row(rules, digits, count, ones, _) = *row;
-    let form = Form {
+    let schc_packet = SchcPacket {
         digits,
         count,
         ones,
     };
-    read_with(alloc, rules, form, SENSOR)
+    read_with(alloc, rules, schc_packet, SENSOR)
 }
 
 #[test]

@@ -1,12 +1,10 @@
-use Rattle.std.specs.Prelude.{◌⊎◌}
-use Rattle.std.proofs.Common.{inl, inr}
-use Rattle.std.proofs.lemmas.Result.{IfOk-weaker, IfErr-weaker}
-use Rattle.packer.proofs.SaysLemmas.{says-read, none-read, bound-read}
+use Rattle.std.proofs.lemmas.Result.{IfErr-weaker}
+use Rattle.packer.proofs.SaysLemmas.{says-result, none-read, bound-result}
 use Rattle.packer.proofs.unpacking.unpack.Goals as goal
 
 pub returns-clause-says : goal.returns-clause-says
 returns-clause-says c =
-    IfOk-weaker c.read.result _ _ (λ read is. says-read c.args.edition.now c.args.iids c.args.direction c.args.bits.now read c.read.ensures.sound is) c.read.ensures.ok
+    says-result c.args.edition.now c.args.iids c.args.direction c.args.bits.now c.read.result c.read.ensures.sound c.read.ensures.options c.read.ensures.ok
 
 pub returns-clause-none : goal.returns-clause-none
 returns-clause-none c =
@@ -14,4 +12,4 @@ returns-clause-none c =
 
 pub returns-clause-bound : goal.returns-clause-bound
 returns-clause-bound c =
-    IfOk-weaker c.read.result _ _ (λ read is. bound-read c.args.edition.now c.args.iids c.args.direction c.args.bits.now read c.read.ensures.sound is) c.read.ensures.ok
+    bound-result c.args.edition.now c.args.iids c.args.direction c.args.bits.now c.read.result c.read.ensures.sound c.read.ensures.options c.read.ensures.ok

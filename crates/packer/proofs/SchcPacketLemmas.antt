@@ -5,7 +5,7 @@ use Rattle.std.proofs.lemmas.Bool.{cases_Bool, or_parts, ltb-false}
 use Rattle.std.proofs.lemmas.List.{length-append}
 use Rattle.schc_bits.specs.Bits.{number_bits}
 use Rattle.schc_bits.proofs.NumberBits.{length-number_bits}
-use Rattle.rule_model.specs.declared.finding.Row.TheVariants as row
+use Rattle.rule_model.specs.declared.finding.FindingKind.TheVariants as kind
 use Rattle.rule_model.specs.Data.{RuleData}
 use Rattle.rule_model.specs.Findings.{id_out_of_range, place_of, IsAdmitted}
 
@@ -13,7 +13,7 @@ use Rattle.rule_model.specs.Findings.{id_out_of_range, place_of, IsAdmitted}
 in_range : (rule : RuleData) → IsAdmitted rule → id_out_of_range rule ≡ false
 in_range rule admitted =
     elim (cases_Bool (id_out_of_range rule)) [
-      | inl t ↦ let there : place_of row.IdOutOfRange rule ≡ Some 0 = rw t refl in let none : place_of row.IdOutOfRange rule ≡ None = admitted row.IdOutOfRange in absurd (cc)
+      | inl t ↦ let there : place_of kind.IdOutOfRange rule ≡ Some 0 = rw t refl in let none : place_of kind.IdOutOfRange rule ≡ None = admitted kind.IdOutOfRange in absurd (cc)
       | inr f ↦ f
     ]
 

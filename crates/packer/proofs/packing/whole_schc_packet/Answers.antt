@@ -1,6 +1,6 @@
 use Rattle.std.proofs.Common.{arith}
-use Rattle.packer.proofs.FormLemmas.{with_id, with_more}
-use Rattle.packer.proofs.packing.whole_form.Goals as goal
+use Rattle.packer.proofs.SchcPacketLemmas.{with_id, with_more}
+use Rattle.packer.proofs.packing.whole_schc_packet.Goals as goal
 
 pub invariant_of-result : goal.invariant_of-result
 invariant_of-result c = (

@@ -1,5 +1,0 @@
-use Rattle.std.proofs.Common.{◌≡◌, ◌++◌, drop}
-use Rattle.packer.proofs.splits.append.Given as goal
-
-abbrev pub invariant-loop-field : goal.invariant-loop-field
-invariant-loop-field l = l.fields.items ++ drop l.field-index l.more ≡ l.initial.fields.items ++ l.more
