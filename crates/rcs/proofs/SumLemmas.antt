@@ -2,17 +2,17 @@
 use Rattle.std.specs.Prelude.{ℕ, ◌≡◌, ◌+◌, ◌-◌, ◌*◌, ◌/◌, ◌%◌, ◌^◌, ◌<◌, ◌≤◌, Bool, List, [], ◌∷◌, ◌++◌, zero, suc, length, get_or, take, drop, Some}
 use Rattle.std.proofs.Common.{arith, ap, refl, sym, subst, ◌∙◌}
 use Rattle.std.proofs.lemmas.List.{length-append, append_assoc, append-nil, take_all, drop_all, take_at, drop-drop}
-use Rattle.std.proofs.lemmas.Nat.{div-mul-add, mod-mul-add, mul-add-lt, pow-add, shl_below}
+use Rattle.std.proofs.lemmas.Nat.{div-mul-add, mod-mul-add, mul-add-lt, pow-add, shl_below, shr_below}
 use Rattle.std.proofs.Math.Nat.{mod-eq_of_lt}
 use Rattle.std.proofs.Math.Pow.{pow_mono}
 use Rattle.std.proofs.Math.Seq.{drop-append-add, take-add}
 use Rattle.schc_bits.specs.Bits.{number_bits, bits_value, octets, padded, first_bytes, bytes_of, number_at, AreBytes}
 use Rattle.schc_bits.proofs.NumberBits.{number_bits-append, number_bits-mod, length-number_bits, bits_value-number_bits, take-number_bits, drop-number_bits}
-use Rattle.schc_bits.proofs.Octets.{length-octets, bytes_of-octets-append, bytes_of-append-drop, AreBytes-bytes_of, bytes_of-short, bytes_of-padded-more, padded-append, padded-whole}
+use Rattle.schc_bits.proofs.Octets.{length-octets, take-octets, drop-octets, bytes_of-octets-append, bytes_of-append-drop, AreBytes-bytes_of, bytes_of-short, bytes_of-padded-more, padded-append, padded-whole}
 use Rattle.schc_bits.proofs.PartBits.{piece-front}
 use Rattle.schc_bits.proofs.Reading.{number_at-takes}
 use Rattle.rcs.specs.Division.{rcs_of}
-use Rattle.rcs.specs.Words.{byte_step, word_after, Sum, empty_sum, begun_of, added, Sums, check_of_sum}
+use Rattle.rcs.specs.Words.{byte_step, word_after, Sum, empty_sum, begun_of, sum_of, added, Sums, check_of_sum}
 use Rattle.rcs.proofs.Steps.{word_after-append, check_of-bytes}
 
 parts : (bits : List Bool) → octets (bytes_of bits) ++ begun_of bits ≡ bits
@@ -232,3 +232,28 @@ shl-small part width count h few =
     let below : part * 2 ^ width < 2 ^ (count + width) = shl_below part count width h in
     let most : 2 ^ (count + width) ≤ 2 ^ 16 = pow_mono few in
     mod-eq_of_lt (omega (arith, below, most))
+
+-- one whole byte is added, and then the others
+pub bytes-more : (word count part byte window : ℕ) (rest : List ℕ) → byte < 256 → window ≡ part * 2 ^ 8 + byte → count < 8 → window / 2 ^ count < 256 →
+    added (sum_of (byte_step word (window / 2 ^ count)) count (window % 2 ^ count)) (octets rest) ≡ added (sum_of word count part) (octets (byte ∷ rest))
+bytes-more word count part byte window rest h e few small =
+    let long : count + 8 ≡ 8 + count = omega arith in
+    ap (λ sum. added sum (octets rest)) (put-long word count part 8 byte window count (omega (arith, h)) e long few small)
+    ∙ added-more (sum_of word count part) (number_bits 8 byte) (octets rest)
+
+pub bytes-none : (word count part : ℕ) → count < 8 → part < 2 ^ count → sum_of word count part ≡ added (sum_of word count part) []
+unfolding added word_after sum_at
+bytes-none word count part few small =
+    sym (ap (λ bits. sum_at word bits) (append-nil (number_bits count part)) ∙ short-begun word count part few)
+
+-- the bits of whole bytes
+pub whole-piece : (bytes : List ℕ) (first whole at : ℕ) → 8 * first ≡ at → octets (take whole (drop first bytes)) ≡ take (8 * whole) (drop at (octets bytes))
+whole-piece bytes first whole at e =
+    sym (ap (λ n. take (8 * whole) (drop n (octets bytes))) (sym e) ∙ ap (λ bits. take (8 * whole) bits) (drop-octets first bytes) ∙ take-octets whole (drop first bytes))
+
+-- what goes into the word of a window is a byte
+pub full-byte : (window count : ℕ) → window < 2 ^ (count + 8) → window / 2 ^ count < 256
+full-byte window count h =
+    let same : count + 8 ≡ 8 + count = omega arith in
+    let below = shr_below window 8 count (subst (λ n. window < 2 ^ n) same h) in
+    omega (arith, below)

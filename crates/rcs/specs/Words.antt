@@ -2,7 +2,7 @@
 -- register holds.
 use Rattle.std.specs.Prelude.{ℕ, ◌≡◌, ◌-◌, ◌*◌, ◌/◌, ◌%◌, ◌^◌, ◌==◌, zero, suc, Bool, if◌then◌else◌, List, [], ◌∷◌, ◌++◌, length, drop}
 use Rattle.std.specs.Int.Bits.{bit_xor}
-use Rattle.schc_bits.specs.Bits.{padded, bytes_of}
+use Rattle.schc_bits.specs.Bits.{number_bits, padded, bytes_of}
 
 -- one step of the division, where the next bit of the dividend is 0
 unfoldable pub bit_step : ℕ → ℕ
@@ -37,6 +37,10 @@ empty_sum = record { word = 4294967295; begun = [] }
 -- the bits behind the last whole byte
 unfoldable pub begun_of : List Bool → List Bool
 begun_of bits = drop (8 * (length bits / 8)) bits
+
+-- what a register holds whose byte that is begun has `count` bits, which write a number
+abbrev pub sum_of : ℕ → ℕ → ℕ → Sum
+sum_of word count part = record { word = word; begun = number_bits count part }
 
 -- what a register holds after the bits
 unfoldable pub added : Sum → List Bool → Sum

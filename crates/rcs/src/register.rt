@@ -1,9 +1,9 @@
 //! A register to which bits are added in pieces.
 
-ghost use Rattle.std.specs.Prelude.{ℕ, ◌≡◌, ◌+◌, ◌-◌, ◌*◌, ◌^◌, ◌<◌, ◌≤◌, Bool, List, [], ◌++◌, length, take, drop};
+ghost use Rattle.std.specs.Prelude.{ℕ, ◌≡◌, ◌+◌, ◌-◌, ◌*◌, ◌%◌, ◌^◌, ◌<◌, ◌≤◌, Bool, List, [], ◌++◌, length, take, drop};
 ghost use Rattle.schc_bits.specs.Bits.{number_bits, octets};
 ghost use Rattle.rcs.specs.Division.{rcs_of};
-ghost use Rattle.rcs.specs.Words.{empty_sum, added, Sums, check_of_sum};
+ghost use Rattle.rcs.specs.Words.{empty_sum, sum_of, added, Sums, check_of_sum};
 
 use crate::words::next_word;
 use schc_bits::{BitReader, Bits};
@@ -58,10 +58,7 @@ impl Register {
     {
         let mut at = from;
         while at < to {
-            let first = (at % 8) as u32;
-            let width = (8 - at % 8).min(to - at) as u32;
-            self.put(bits_within(bytes[at / 8], first, width), width);
-            at += width as usize;
+            at = self.add_piece(bytes, at, to);
         }
     }
 
@@ -112,6 +109,36 @@ impl Register {
         self.count = over;
     }
 
+    /// Adds the bits from the index `at` on: those of all bytes that are whole before the index
+    /// `to`, or else those that are left of one byte. It gives the index behind them.
+    fn add_piece(&mut self, bytes: &[u8], at: usize, to: usize) -> usize
+        requires order { at < to }
+        requires within { to ≤ 8 * length bytes.now }
+        ensures further { at < result }
+        ensures within { result ≤ to }
+        ensures added { self.new ≡ added self.old (take (result - at) (drop at (octets bytes.now))) }
+    {
+        let whole = whole_bytes(at, to);
+        if 0 < whole {
+            let first = at / 8;
+            self.put_all(&bytes[first..first + whole]);
+            return at + 8 * whole;
+        }
+        let first = (at % 8) as u32;
+        let width = (8 - at % 8).min(to - at) as u32;
+        self.put(bits_within(bytes[at / 8], first, width), width);
+        at + width as usize
+    }
+
+    /// Adds the bytes.
+    fn put_all(&mut self, bytes: &[u8])
+        ensures { self.new ≡ added self.old (octets bytes.now) }
+    {
+        let (word, part) = after_bytes(self.word, self.part, self.count, bytes);
+        self.word = word;
+        self.part = part;
+    }
+
     /// Adds all whole bytes that are left.
     fn put_bytes(&mut self, reader: &mut BitReader<'_>)
         ensures short { length reader.new < 8 }
@@ -132,6 +159,41 @@ impl Register {
             self.put(last as u32, count);
         }
     }
+}
+
+/// The bytes that begin at the index `at` and are whole before the index `to`.
+fn whole_bytes(at: usize, to: usize) -> usize
+    requires { at ≤ to }
+    ensures within { 8 * result ≤ to - at }
+    ensures begins { 0 < result → at % 8 ≡ 0 }
+{
+    if at % 8 == 0 { (to - at) / 8 } else { 0 }
+}
+
+/// The word of a register and the bits of the byte that is begun, after the bytes.
+fn after_bytes(mut word: u32, mut part: u32, count: u32, bytes: &[u8]) -> (u32, u32)
+    requires count { count < 8 }
+    requires part { part < 2 ^ count }
+    ensures below { result.1 < 2 ^ count }
+    ensures added { sum_of result.0 count result.1 ≡ added (sum_of word count part) (octets bytes.now) }
+{
+    for byte in bytes {
+        let window = with_byte(part, count, *byte);
+        word = next_word(word, (window >> count) as u8);
+        part = window % (1 << count);
+    }
+    (word, part)
+}
+
+/// The number that the `count` bits of `part` and those of the byte behind them write.
+fn with_byte(part: u32, count: u32, byte: u8) -> u32
+    requires count { count < 8 }
+    requires part { part < 2 ^ count }
+    ensures byte { byte < 256 }
+    ensures sum { result ≡ part * 2 ^ 8 + byte }
+    ensures below { result < 2 ^ (count + 8) }
+{
+    joined(part, count, u32::from(byte), 8)
 }
 
 /// The number that the `count` bits of `part` and the `width` bits of `value` behind them write.

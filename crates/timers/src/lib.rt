@@ -1,6 +1,8 @@
 //! Timers that are named by small numbers, their keys.
 #![tactic(auto)]
 
+mod key_lists;
+mod key_set;
 pub mod laws;
 #[cfg(test)]
 mod tests;

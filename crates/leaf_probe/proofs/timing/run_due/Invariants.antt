@@ -1,0 +1,6 @@
+use Rattle.std.proofs.Common.{◌≡◌, length}
+use Rattle.leaf_probe.proofs.timing.run_due.Given as goal
+
+-- all keys are there
+abbrev pub invariant-loop-key : goal.invariant-loop-key
+invariant-loop-key l = length l.timers ≡ 65536
