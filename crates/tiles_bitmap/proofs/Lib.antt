@@ -1,3 +1,4 @@
+pub mod PieceLemmas
 pub mod PlacesLemmas
 pub mod TilesLemmas
 pub mod WindowsLemmas

@@ -1,4 +1,5 @@
 pub mod Laws
 pub mod Numbers
+pub mod Padding
 pub mod Places
 pub mod Tiles

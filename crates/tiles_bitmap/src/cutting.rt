@@ -1,6 +1,6 @@
 //! Cutting an SCHC packet.
 
-ghost use Rattle.std.specs.Prelude.{ℕ, ◌≡◌, ◌-◌, ◌<◌, ◌≤◌, IfOk};
+ghost use Rattle.std.specs.Prelude.{ℕ, ◌≡◌, ◌-◌, ◌<◌, ◌≤◌, ◌∷◌, length, get_or, IfOk};
 ghost use Rattle.schc_ids.specs.Fragments.{IsFragParams};
 ghost use Rattle.tiles_bitmap.specs.Tiles.{most_in_last, tile_size, tile_ends};
 
@@ -34,6 +34,22 @@ pub fn cut(alloc: Global, params: &FragParams, mtu: u16, bits: usize) -> Result<
     }
     cuts.push(bits)?;
     Ok(cuts)
+}
+
+/// The bit at which the tile with the index i begins.
+pub fn start_of(cuts: &Cuts, i: usize) -> usize
+    requires { i < length cuts.now.items }
+    ensures { result ≡ get_or (0 ∷ cuts.now.items) i 0 }
+{
+    if i == 0 { 0 } else { *cuts.at(i - 1) }
+}
+
+/// The bit at which the tile with the index i ends.
+pub fn end_of(cuts: &Cuts, i: usize) -> usize
+    requires { i < length cuts.now.items }
+    ensures { result ≡ get_or cuts.now.items i 0 }
+{
+    *cuts.at(i)
 }
 
 /// The most bits of a last tile.

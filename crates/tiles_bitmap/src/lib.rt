@@ -7,5 +7,5 @@ mod numbers;
 #[cfg(test)]
 mod tests;
 
-pub use cutting::{Cuts, cut};
+pub use cutting::{Cuts, cut, end_of, start_of};
 pub use numbers::{TileNumber, tile_number};

@@ -1,0 +1,3 @@
+pub mod ReceiverLemmas
+pub mod SenderLemmas
+pub mod TileLemmas
