@@ -1,0 +1,4 @@
+pub mod Fragments
+pub mod Laws
+pub mod State
+pub mod Steps

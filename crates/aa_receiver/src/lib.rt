@@ -1,0 +1,12 @@
+//! The receiver of the ACK-Always mode of SCHC fragmentation (RFC 8724 section 8.4.2).
+#![tactic(auto)]
+
+pub mod laws;
+mod receiver;
+mod states;
+mod steps;
+#[cfg(test)]
+mod tests;
+
+pub use receiver::AaReceiver;
+pub use states::{State, TileAnswer};

@@ -1,0 +1,4 @@
+pub mod ArrivalLemmas
+pub mod KeptLemmas
+pub mod SenderLemmas
+pub mod TileLemmas

@@ -1,0 +1,29 @@
+//! What holds of every sender.
+
+ghost use Rattle.aa_sender.specs.Laws.{BeginsOne, StaysOne, DueFits, TileArrives, LastArrives};
+
+/// A session that begins has a sender, with all that holds of one.
+pub fn begins_one()
+    ensures { BeginsOne }
+{}
+
+/// Each step of a sender leads to one.
+pub fn stays_one()
+    ensures { StaysOne }
+{}
+
+/// What is due can be written, and fits in a frame.
+pub fn due_fits()
+    ensures { DueFits }
+{}
+
+/// A Regular arrives with its tile and nothing behind it.
+pub fn tile_arrives()
+    ensures { TileArrives }
+{}
+
+/// The tiles of all Regulars and the payload of the All-1, as they arrive, are the packet with its
+/// padding, over which the check is made.
+pub fn last_arrives()
+    ensures { LastArrives }
+{}

@@ -1,0 +1,11 @@
+//! The sender of the ACK-Always mode of SCHC fragmentation (RFC 8724 section 8.4.2).
+#![tactic(auto)]
+
+pub mod laws;
+mod sender;
+mod states;
+#[cfg(test)]
+mod tests;
+
+pub use sender::AaSender;
+pub use states::AaSenderState;
