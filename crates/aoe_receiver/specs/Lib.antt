@@ -1,0 +1,5 @@
+pub mod Laws
+pub mod Machine
+pub mod State
+pub mod Steps
+pub mod Store

@@ -1,0 +1,5 @@
+pub mod CutLemmas
+pub mod KeepsLemmas
+pub mod LawsLemmas
+pub mod MarksLemmas
+pub mod MessageLemmas
