@@ -1,0 +1,9 @@
+pub mod Clocks
+pub mod Data
+pub mod Holds
+pub mod Keys
+pub mod Receivers
+pub mod Reception
+pub mod Senders
+pub mod Session
+pub mod Steps
