@@ -4,6 +4,7 @@ use Rattle.std.proofs.lemmas.List.{append_assoc, length-replicate}
 use Rattle.schc_bits.specs.Bits.{number_bits, padded, bytes_of}
 use Rattle.schc_bits.proofs.Octets.{length-bytes_of, length-padded, octets-bytes_of-padded, padded-is}
 use Rattle.packer.specs.declared.packing.Packed.{Packed}
+use Rattle.packer.proofs.PackedLemmas.{BeginsWithId}
 use Rattle.end_core.specs.Data.{after_id, frame_size}
 use Rattle.end_core.specs.End.{frame_of, carried}
 
@@ -19,10 +20,6 @@ pub length-frame_of : (form : Packed) → length (frame_of form).bytes ≡ frame
 length-frame_of form = length-padded_bytes (after_id form.bits)
 
 pub ruleset frame_sizes = length-padded_bytes
-
--- an SCHC packet begins with its RuleID in 8 bits
-abbrev pub BeginsWithId : Packed → Type 0
-BeginsWithId form = form.bits ≡ number_bits 8 form.rule_id ++ after_id form.bits
 
 -- the zero bits that a frame has behind the SCHC packet
 abbrev pub frame_padding : Packed → List Bool

@@ -7,12 +7,12 @@ use Rattle.schc_bits.proofs.NumberBits.{bits_value-number_bits}
 use Rattle.schc_ids.specs.declared.ends.Direction.{Direction}
 use Rattle.schc_ids.specs.declared.ends.Role.{Role}
 use Rattle.schc_ids.specs.declared.ends.Iids.{Iids}
-use Rattle.rule_model.specs.declared.finding.Row.TheVariants as row
+use Rattle.rule_model.specs.declared.finding.FindingKind.TheVariants as kind
 use Rattle.rule_model.specs.Data.{RuleData}
 use Rattle.rule_model.specs.Findings.{IsAdmitted, id_out_of_range, id_reserved}
 use Rattle.editions.specs.Data.{EditionData}
 use Rattle.packer.specs.UnpackedData.{UnpackedData}
-use Rattle.packer.specs.Packets.{is_ipv6}
+use Rattle.ip_udp_fields.specs.Fields.{has_ipv6_header}
 use Rattle.packer.specs.Schc.{IsChosen}
 use Rattle.packer.specs.Packing.{packed}
 use Rattle.packer.specs.Unpacking.{unpacked}
@@ -22,10 +22,10 @@ use Rattle.lorawan_profile.specs.declared.ports.PortMeaning.TheVariants.{Whole}
 use Rattle.lorawan_profile.proofs.PortsLemmas.{meaning_of-whole}
 use Rattle.end_core.specs.End.{frame_of, carried}
 use Rattle.end_core.proofs.FrameLemmas.{frame_padding, length-frame_padding, carried-frame_of}
-use Rattle.end_core.proofs.PackedLemmas.{packed-begins}
+use Rattle.packer.proofs.PackedLemmas.{packed-begins}
 use Rattle.packer.proofs.ChosenLemmas.{packed-chosen}
 use Rattle.packer.proofs.WrittenLemmas.{reads_what_was_written}
-use Rattle.end_core.proofs.AgreeLemmas.{IsKnown, chosen-known, read-known}
+use Rattle.packer.proofs.AgreeLemmas.{IsKnown, chosen-known, read-known}
 
 -- the first 8 bits behind a RuleID in front
 id-bits : (id : ℕ) (rest : List Bool) → take 8 (number_bits 8 id ++ rest) ≡ number_bits 8 id
@@ -51,8 +51,8 @@ whole-parts a b c d e f ea eb ec ed ee ef = rw (ea, eb, ec, ed, ee, ef) refl
 admitted-whole : (rule : RuleData) → IsAdmitted rule → is_whole rule.id ≡ true
 unfolding is_whole
 admitted-whole rule admitted =
-    let range : id_out_of_range rule ≡ false = none-false (id_out_of_range rule) _ (admitted row.IdOutOfRange) in
-    let reserved : id_reserved rule ≡ false = none-false (id_reserved rule) _ (admitted row.IdReserved) in
+    let range : id_out_of_range rule ≡ false = none-false (id_out_of_range rule) _ (admitted kind.IdOutOfRange) in
+    let reserved : id_reserved rule ≡ false = none-false (id_reserved rule) _ (admitted kind.IdReserved) in
     let r = or-false (rule.id == 0) (nat_lt 223 rule.id) range in
     let a = or-false _ (rule.id == 223) reserved in
     let b = or-false _ (rule.id == 222) a.0 in
@@ -92,7 +92,7 @@ packed-known edition iids way packet sound bytes =
     chosen-known edition iids way packet (packed edition iids way packet).rule_id (packed edition iids way packet).bits sound.ascending (packed-chosen edition iids way packet sound bytes)
 
 -- a reader that agrees on the RuleID reads the frame as the packet that the other end restores
-pub reads-frame : (writer reader : EditionData) (iids : Iids) (way : Direction) (packet : List ℕ) → IsSound writer → IsSound reader → AreBytes packet → is_ipv6 packet ≡ true → AgreeOn writer reader (packed writer iids way packet).rule_id → IsReadAs writer reader iids way packet (packed writer iids way packet).rule_id (carried (frame_of (packed writer iids way packet)))
+pub reads-frame : (writer reader : EditionData) (iids : Iids) (way : Direction) (packet : List ℕ) → IsSound writer → IsSound reader → AreBytes packet → has_ipv6_header packet ≡ true → AgreeOn writer reader (packed writer iids way packet).rule_id → IsReadAs writer reader iids way packet (packed writer iids way packet).rule_id (carried (frame_of (packed writer iids way packet)))
 reads-frame writer reader iids way packet written read bytes ipv6 agree =
     let p = packed writer iids way packet in
     subst (λ bits. IsReadAs writer reader iids way packet p.rule_id bits) (sym (carried-frame_of p (packed-begins writer iids way packet)))

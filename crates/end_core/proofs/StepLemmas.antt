@@ -3,7 +3,7 @@ use Rattle.std.proofs.Common.{◌≡◌, ℕ, ◌==◌, Bool, true, false, not, 
 use Rattle.editions.specs.Data.{EditionData}
 use Rattle.editions.specs.Followed.{diverged}
 use Rattle.packer.specs.declared.packing.Packed.{Packed}
-use Rattle.packer.specs.Packets.{is_ipv6}
+use Rattle.ip_udp_fields.specs.Fields.{has_ipv6_header}
 use Rattle.event_data.specs.Records.{FrameData}
 use Rattle.event_data.specs.declared.outcomes.DownFault.{DownFault}
 use Rattle.event_data.specs.declared.outcomes.DownFault.TheVariants.{NotIpv6}
@@ -18,7 +18,7 @@ use Rattle.end_core.specs.EndStep.{end_step}
 pub data Does (end : EndData) : EndEvent → EndData → Outcome → Type 0 where
   refuses : (packet : List ℕ) (fault : DownFault) → Does end (Down packet) end (Handed (Err fault))
   accepts :
-      (packet : List ℕ) → is_ipv6 packet ≡ true →
+      (packet : List ℕ) → has_ipv6_header packet ≡ true →
       Does end (Down packet) (with_form end (form_of end packet)) (Handed (Ok (accepted (form_of end packet))))
   rests : end.queue ≡ [] → Does end Slot end (Sent None)
   sends : (form : Packed) → slice_get end.queue 0 ≡ Some form → Does end Slot (without_first end) (Sent (Some (emitted form)))
@@ -35,9 +35,9 @@ ipv6-cases true o e = refl
 ipv6-cases false o e = absurd cc
 
 -- a packet that isn't refused is IPv6
-pub refusal-ipv6 : (end : EndData) (packet : List ℕ) → refusal end packet (form_of end packet) ≡ None → is_ipv6 packet ≡ true
+pub refusal-ipv6 : (end : EndData) (packet : List ℕ) → refusal end packet (form_of end packet) ≡ None → has_ipv6_header packet ≡ true
 unfolding refusal
-refusal-ipv6 end packet e = ipv6-cases (is_ipv6 packet) _ e
+refusal-ipv6 end packet e = ipv6-cases (has_ipv6_header packet) _ e
 
 down-does : (end : EndData) (packet : List ℕ) (o : Option DownFault) → refusal end packet (form_of end packet) ≡ o →
     let s = down_from end (form_of end packet) o in Does end (Down packet) s.0 (Handed s.1)

@@ -9,7 +9,7 @@ use Rattle.schc_ids.specs.declared.ends.Role.{Role}
 use Rattle.schc_ids.specs.declared.faults.UnpackFault.{UnpackFault}
 use Rattle.editions.specs.Data.{EditionData, first_edition}
 use Rattle.editions.specs.Followed.{diverged}
-use Rattle.packer.specs.Packets.{is_ipv6}
+use Rattle.ip_udp_fields.specs.Fields.{has_ipv6_header}
 use Rattle.packer.specs.Packing.{packed}
 use Rattle.packer.specs.UnpackedData.{UnpackedData}
 use Rattle.packer.specs.Unpacking.{unpacked}
@@ -50,7 +50,7 @@ is_too_long mtu packet form = nat_lt max_packet (length packet) || nat_lt mtu (f
 -- why the end refuses a packet that it writes so, if it does
 unfoldable pub refusal : EndData → List ℕ → Packed → Option DownFault
 refusal end packet form =
-    if not (is_ipv6 packet) then Some NotIpv6
+    if not (has_ipv6_header packet) then Some NotIpv6
     else if is_too_long end.params.mtu packet form then Some TooLong
     else if nat_le queue_room (length end.queue) then Some Full
     else None

@@ -1,5 +1,5 @@
 -- What can happen to one end, and what it answers.
-use Rattle.std.specs.Prelude.{ℕ, Bool, List, Option, Result, Ok, Err}
+use Rattle.std.specs.Prelude.{ℕ, ◌≤◌, ◌⊎◌, Bool, List, length, Option, Result, Ok, Err}
 use Rattle.schc_ids.specs.declared.notes.Report.{Report}
 use Rattle.editions.specs.Data.{EditionData}
 use Rattle.event_data.specs.Records.{FrameData}
@@ -31,6 +31,14 @@ pub data Outcome : Type 0 where
   Aborted : Option Report → Outcome
   Answered : Offered → Outcome
   Allowed : Bool → Outcome
+
+-- the most bytes of an IPv6 packet: its header has 40, and 16 bits say how many follow (RFC 8200, section 3)
+abbrev pub max_ipv6_packet : ℕ
+max_ipv6_packet = 65575
+
+-- a packet that a frame hands up has at most so many bytes, or as many as the frame where that is more
+abbrev pub IsWithin : FrameData → List ℕ → Type 0
+IsWithin frame packet = (length packet ≤ max_ipv6_packet) ⊎ (length packet ≤ length frame.bytes)
 
 -- how a packet goes, or a cause to refuse it
 abbrev pub IsHandAnswer : Result Accepted DownFault → Type 0

@@ -1,12 +1,12 @@
 //! The end.
 
 ghost use Rattle.std.specs.Prelude.{◌≡◌, ◌<◌, ◌≤◌, ◌⊎◌, true, length, Ok, Err, IfOk, IfErr, IfSome, OnErr};
-ghost use Rattle.packer.specs.Packets.{is_ipv6};
+ghost use Rattle.ip_udp_fields.specs.Fields.{has_ipv6_header};
 ghost use Rattle.schc_ids.specs.Limits.{max_packet, max_mtu};
 ghost use Rattle.schc_ids.specs.Params.{IsParams};
 ghost use Rattle.lorawan_profile.specs.Ports.{meaning_of};
 ghost use Rattle.end_core.specs.Data.{IsEnd};
-ghost use Rattle.end_core.specs.Events.{IsOutcomeOf, Take, Took};
+ghost use Rattle.end_core.specs.Events.{IsOutcomeOf, IsWithin, Take, Took};
 ghost use Rattle.end_core.specs.End.{
   new_end,
   form_of,
@@ -26,8 +26,9 @@ ghost use Rattle.end_core.specs.End.{
 use crate::forms::{carried, frame_of, frame_size};
 use editions::Edition;
 use event_data::{Accepted, DownFault, EmitKind, Emitted, Frame, HandUp, Offered, Taken};
+use ip_udp_fields::has_ipv6_header;
 use lorawan_profile::{PortMeaning, meaning};
-use packer::{Packed, Unpacked, is_ipv6, pack, unpack};
+use packer::{Packed, Unpacked, pack, unpack};
 use schc_ids::limits::{MAX_PACKET, QUEUE_ROOM};
 use schc_ids::{Cause, EndParams, Note, Report, Role, UnpackFault};
 use std::alloc::{AllocError, Global};
@@ -114,9 +115,9 @@ impl End {
         ensures done { IfOk result (λ answer. down_step self.old packet.now ≡ (self.new, Ok answer)) }
         ensures refused { IfErr result (λ fault. (fault ≡ DownFault.Memory) ⊎ (down_step self.old packet.now ≡ (self.old, Err fault))) }
         ensures unchanged { OnErr result (self.new ≡ self.old) }
-        ensures memory { IfErr result (λ fault. fault ≡ DownFault.Memory → (is_ipv6 packet.now ≡ true) × (length packet.now ≤ max_packet)) }
+        ensures memory { IfErr result (λ fault. fault ≡ DownFault.Memory → (has_ipv6_header packet.now ≡ true) × (length packet.now ≤ max_packet)) }
     {
-        if !is_ipv6(packet) {
+        if !has_ipv6_header(packet) {
             return Err(DownFault::NotIpv6);
         }
         if packet.len() > MAX_PACKET {
@@ -148,7 +149,7 @@ impl End {
     /// # Errors
     /// Want of memory.
     fn form_of(&self, packet: &[u8]) -> Result<Packed, AllocError>
-        requires { is_ipv6 packet.now ≡ true }
+        requires { has_ipv6_header packet.now ≡ true }
         ensures form { IfOk result (λ form. form ≡ form_of self.now packet.now) }
         ensures is_port { IfOk result (λ form. form.rule_id < 256) }
         ensures has_id { IfOk result (λ form. 8 ≤ length form.bits) }
@@ -187,7 +188,8 @@ impl End {
     }
 
     /// Takes a frame: a whole SCHC packet is read with the edition that the end knows. The end stays
-    /// as it is. By the ports of fragments and answers nothing comes yet.
+    /// as it is. By the ports of fragments and answers nothing comes yet. A packet that is handed up
+    /// has at most 65,575 bytes, or as many as the frame where that is more.
     ///
     /// # Errors
     /// Want of memory, which comes only for a whole SCHC packet; nothing has changed then.
@@ -196,6 +198,7 @@ impl End {
         ensures done { IfOk result (λ answer. take_step self.old frame.now ≡ (self.new, answer)) }
         ensures unchanged { OnErr result (self.new ≡ self.old) }
         ensures outcome { IfOk result (λ answer. IsOutcomeOf (Take frame.now) (Took answer)) }
+        ensures bound { IfOk result (λ answer. IfSome answer.up (λ up. IsWithin frame.now up.packet)) }
         ensures memory { OnErr result (meaning_of self.old.role frame.now.port ≡ PortMeaning.Whole) }
     {
         match meaning(self.role, frame.port) {
@@ -212,6 +215,7 @@ impl End {
     fn take_whole(&self, frame: &Frame) -> Result<Taken, AllocError>
         ensures done { IfOk result (λ answer. answer ≡ taken_whole self.now.known.number (read self.now frame.now)) }
         ensures outcome { IfOk result (λ answer. IsOutcomeOf (Take frame.now) (Took answer)) }
+        ensures bound { IfOk result (λ answer. IfSome answer.up (λ up. IsWithin frame.now up.packet)) }
     {
         let bits = carried(self.alloc, frame)?;
         let direction = self.role.other().sends();

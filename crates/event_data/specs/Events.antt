@@ -1,5 +1,6 @@
 -- What can happen, with packets as lists of bytes and editions as they are handed in.
 use Rattle.std.specs.Prelude.{ℕ, List}
+use Rattle.schc_bits.specs.Bits.{AreBytes}
 use Rattle.schc_ids.specs.declared.ends.Role.{Role}
 use Rattle.schc_ids.specs.declared.ends.Direction.{Direction}
 use Rattle.rule_model.specs.RawData.{RawEditionData}
@@ -30,3 +31,9 @@ view_event (code.Abort role) = Abort role
 view_event (code.Publish edition) = Publish edition
 view_event (code.Offer role number) = Offer role number
 view_event (code.Allow role number) = Allow role number
+
+-- an event that hands down bytes, if it hands down a packet: of the ranges of its numbers and bytes this is all that matters
+-- for what is handed up
+abbrev pub HandsBytes : Event → Type 0
+HandsBytes (Down role packet) = AreBytes packet
+HandsBytes event = Unit {0}

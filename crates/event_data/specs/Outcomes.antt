@@ -63,6 +63,12 @@ abbrev pub IsAllowLine : Line → Type 0
 IsAllowLine (line.Allow written) = Unit {0}
 IsAllowLine _ = ⊥
 
+-- the line tells of what happened, and not that there is no such frame or no such edition
+abbrev pub HasHappened : Line → Type 0
+HasHappened line.NoFrame = ⊥
+HasHappened line.NoEdition = ⊥
+HasHappened _ = Unit {0}
+
 -- the event can have the line
 abbrev pub IsLineOf : Event → Line → Type 0
 IsLineOf (Down role packet) answer = IsHandLine answer

@@ -20,7 +20,7 @@ use Rattle.rule_json.specs.Written.{edition_text}
 use Rattle.rule_json.specs.Texts.{edition_of}
 use Rattle.event_data.specs.Events.{Event, Down, Slot, Deliver, Tick, Abort, Publish, Offer, Allow}
 use Rattle.script_lang.specs.Text.{is_space, words_of, is_numeral, number_of, packet_in, some_bytes}
-use Rattle.script_lang.specs.Grammar.{told_by, told_by_text, told_by_words, device_in, event_in, device_event, told_event, slot_event, hand_event, deliver_event, offer_event, allow_event, role_of, direction_of, published_text, publication, is_passed_over}
+use Rattle.script_lang.specs.Grammar.{told_by, told_by_text, told_by_words, device_in, event_in, device_event, told_event, slot_event, hand_event, deliver_event, end_and_edition, offer_event, allow_event, role_of, direction_of, published_text, publication, is_passed_over}
 use Rattle.script_lang.specs.Spelling.{spelled, role_word, direction_word, IsDevice, ReadsBack}
 use Rattle.script_lang.specs.declared.lines.Told.TheVariants.{Happens}
 use Rattle.script_lang.proofs.TextLemmas.{digits_model, list_all-all_ascii_digits, and-right}
@@ -173,14 +173,14 @@ deliver-again devices n direction place d small =
     refl (rw (direction-again direction, number-again (2 ^ 64) place small small) refl)
 
 offer-again : (devices : List DeviceLine) (n : ℕ) (role : Role) (number : ℕ) → IsDevice devices n → number < 2 ^ 32 → told_by devices (spelled n (Offer role number)) ≡ Some (Happens (record { device = n; event = Offer role number }))
-unfolding spelled published_text device_in told_event offer_event
+unfolding spelled published_text device_in told_event offer_event end_and_edition
 offer-again devices n role number d small =
     line-told devices _ (codes "offer") n (role_word role ∷ decimal number ∷ []) (Offer role number) d refl refl
     (four-words (codes "offer") (decimal n) (role_word role) (decimal number) (without (codes "offer") refl) (decimal-without n (small-number d)) (role-without role) (decimal-without number (omega arith)))
     refl (rw (role-again role, number-again (2 ^ 32) number small (omega arith)) refl)
 
 allow-again : (devices : List DeviceLine) (n : ℕ) (role : Role) (number : ℕ) → IsDevice devices n → number < 2 ^ 32 → told_by devices (spelled n (Allow role number)) ≡ Some (Happens (record { device = n; event = Allow role number }))
-unfolding spelled published_text device_in told_event allow_event
+unfolding spelled published_text device_in told_event allow_event end_and_edition
 allow-again devices n role number d small =
     line-told devices _ (codes "allow") n (role_word role ∷ decimal number ∷ []) (Allow role number) d refl refl
     (four-words (codes "allow") (decimal n) (role_word role) (decimal number) (without (codes "allow") refl) (decimal-without n (small-number d)) (role-without role) (decimal-without number (omega arith)))

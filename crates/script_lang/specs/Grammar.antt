@@ -94,19 +94,24 @@ deliver_event way place = do
   k ← number_of (2 ^ 64) place
   Some (Deliver direction k)
 
+-- the end and the number of an edition that two words name
+unfoldable pub end_and_edition : List ℕ → List ℕ → Option (Role × ℕ)
+end_and_edition end edition = do
+  role ← role_of end
+  number ← number_of (2 ^ 32) edition
+  Some (role, number)
+
 -- the event of `offer N E NUMBER`, after its N
 unfoldable pub offer_event : List ℕ → List ℕ → Option Event
 offer_event end edition = do
-  role ← role_of end
-  number ← number_of (2 ^ 32) edition
-  Some (Offer role number)
+  named ← end_and_edition end edition
+  Some (Offer named.0 named.1)
 
 -- the event of `allow N E NUMBER`, after its N
 unfoldable pub allow_event : List ℕ → List ℕ → Option Event
 allow_event end edition = do
-  role ← role_of end
-  number ← number_of (2 ^ 32) edition
-  Some (Allow role number)
+  named ← end_and_edition end edition
+  Some (Allow named.0 named.1)
 
 -- the event that words tell: the name of what happens, and what follows the device's number
 unfoldable pub told_event : List ℕ → List (List ℕ) → Option Event

@@ -3,7 +3,7 @@ use Rattle.std.specs.Prelude.{◌≡◌, ℕ, ◌+◌, List, [], ◌∷◌, ◌+
 use Rattle.script_lang.specs.Text.{lines_of}
 use Rattle.script_lang.specs.ScriptData.{ScriptData}
 use Rattle.schc_ids.specs.Params.{IsParams}
-use Rattle.script_lang.specs.Ranges.{HandsBytes}
+use Rattle.event_data.specs.Events.{HandsBytes}
 use Rattle.script_lang.specs.Grammar.{told_by}
 use Rattle.script_lang.specs.declared.lines.Told.{Told}
 use Rattle.script_lang.specs.declared.lines.Told.TheVariants.{Nothing, Declares, Happens}

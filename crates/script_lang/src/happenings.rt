@@ -3,9 +3,8 @@
 ghost use Rattle.std.specs.Prelude.{◌≡◌, ◌==◌, map, IfOk, IfSome};
 ghost use Rattle.std.specs.Option.{option_map};
 ghost use Rattle.std.specs.List.{list_any};
-ghost use Rattle.event_data.specs.Events.{view_event};
-ghost use Rattle.script_lang.specs.Ranges.{HandsBytes};
-ghost use Rattle.script_lang.specs.Grammar.{role_of, direction_of, slot_event, hand_event, deliver_event, offer_event, allow_event, told_event, is_declared, device_event, event_in};
+ghost use Rattle.event_data.specs.Events.{view_event, HandsBytes};
+ghost use Rattle.script_lang.specs.Grammar.{role_of, direction_of, slot_event, hand_event, deliver_event, end_and_edition, offer_event, allow_event, told_event, is_declared, device_event, event_in};
 
 use crate::scripts::ScriptEvent;
 use crate::text::{edition_number, number, packet, small_number};
@@ -59,14 +58,23 @@ fn deliver_event(way: &[u8], place: &[u8]) -> Option<WorldEvent>
     Some(WorldEvent::Deliver(direction, place))
 }
 
+/// The end and the number of an edition that two words name.
+#[tactic(auto, unfolding(crate::specs::Grammar::end_and_edition))]
+fn end_and_edition(end: &[u8], edition: &[u8]) -> Option<(Role, u32)>
+    ensures { result ≡ end_and_edition end.now edition.now }
+{
+    let role = role(end)?;
+    let number = edition_number(edition)?;
+    Some((role, number))
+}
+
 /// The event of `offer N E NUMBER`, after its N.
 #[tactic(auto, unfolding(crate::specs::Grammar::offer_event))]
 fn offer_event(end: &[u8], edition: &[u8]) -> Option<WorldEvent>
     ensures event { option_map view_event result ≡ offer_event end.now edition.now }
     ensures in_range { IfSome result (λ event. HandsBytes (view_event event)) }
 {
-    let role = role(end)?;
-    let number = edition_number(edition)?;
+    let (role, number) = end_and_edition(end, edition)?;
     Some(WorldEvent::Offer(role, number))
 }
 
@@ -76,8 +84,7 @@ fn allow_event(end: &[u8], edition: &[u8]) -> Option<WorldEvent>
     ensures event { option_map view_event result ≡ allow_event end.now edition.now }
     ensures in_range { IfSome result (λ event. HandsBytes (view_event event)) }
 {
-    let role = role(end)?;
-    let number = edition_number(edition)?;
+    let (role, number) = end_and_edition(end, edition)?;
     Some(WorldEvent::Allow(role, number))
 }
 

@@ -13,7 +13,7 @@ use Rattle.schc_ids.proofs.PerRoleLemmas.{at_role-put_role, at_direction-put_dir
 use Rattle.editions.specs.Data.{EditionData}
 use Rattle.editions.proofs.ChainLemmas.{one-meaning}
 use Rattle.packer.specs.declared.packing.Packed.{Packed}
-use Rattle.packer.specs.Packets.{is_ipv6}
+use Rattle.ip_udp_fields.specs.Fields.{has_ipv6_header}
 use Rattle.packer.specs.Packing.{packed}
 use Rattle.packer.specs.Laws.{IsSound, AgreeOn, RestoresUnder, IsReadAs}
 use Rattle.event_data.specs.Records.{FrameData, HandUpData}
@@ -26,7 +26,7 @@ use Rattle.end_core.specs.Data.{EndData}
 use Rattle.end_core.specs.End.{form_of, accepted, with_form, frame_of, emitted, without_first, carried, taken}
 use Rattle.end_core.specs.Events as at_end
 use Rattle.end_core.specs.EndStep.{end_step}
-use Rattle.end_core.proofs.PackedLemmas.{packed-edition}
+use Rattle.packer.proofs.PackedLemmas.{packed-edition}
 use Rattle.end_core.proofs.TakenLemmas.{up_of, taken-reads}
 use Rattle.end_core.proofs.StepLemmas.{Does, end_step-does}
 use Rattle.two_ends.specs.World.{WorldData, end_of, taker, frames_of, numbered, emission, sent_after, answered, end_event, deliver_step, step}
@@ -39,7 +39,7 @@ use Rattle.two_ends.specs.History.{History, start, after_step, next, run}
 use Rattle.two_ends.specs.Clean.{outcome, delivered, slot_delivered, plain_round, plain_rounds, ReaderKnows, IsCarried, Arrives}
 use Rattle.two_ends.proofs.PerLemmas.{each-put_role, put_role-at_role, put_role-put_role, taker-sent, at_role-put_role-taker}
 use Rattle.two_ends.proofs.LedLemmas.{Led, some_injective, led-length, slice_get-last}
-use Rattle.end_core.proofs.AgreeLemmas.{agree-later}
+use Rattle.packer.proofs.AgreeLemmas.{agree-later}
 use Rattle.end_core.proofs.ReadBackLemmas.{packed-whole, packed-known, reads-frame}
 use Rattle.two_ends.proofs.EndsKept.{EndKeeps, form-is}
 use Rattle.two_ends.proofs.QueuesKept.{IsFormOf}
@@ -54,9 +54,10 @@ record IsHandedUpBy (chain : List EditionData) (direction : Direction) (writer :
   is_taken : (taken to (frame_of form)).up ≡ Some (up_of to.known.number (record { rule_id = form.rule_id; packet = restored }))
   written_with : slice_get chain form.edition ≡ Some writer
   restores : RestoresUnder writer direction form.rule_id packet restored
+  are_bytes : AreBytes restored
 
 -- so it is of what an end of the world writes, where the other end knows the edition
-form-handed_up : (params : EndParams) (h : History) (role : Role) (packet : List ℕ) → Keeps params h → AreBytes packet → is_ipv6 packet ≡ true →
+form-handed_up : (params : EndParams) (h : History) (role : Role) (packet : List ℕ) → Keeps params h → AreBytes packet → has_ipv6_header packet ≡ true →
     let from = end_of h.world role in
     let to = end_of h.world (taker (sent_direction role)) in
     from.writes.number ≤ to.known.number → IsHandedUpBy h.world.chain (sent_direction role) from.writes to packet (packed from.writes params.iids (sent_direction role) packet)
@@ -68,6 +69,7 @@ form-handed_up params h role packet k bytes ipv6 order =
           (read-is params h.world.chain direction to (frame_of form) (k.ends (taker direction)) ∙ reads.reads);
       written_with = subst (λ n. slice_get h.world.chain n ≡ Some from.writes) (sym (packed-edition from.writes params.iids direction packet)) writes.writes_with;
       restores = reads.restores;
+      are_bytes = reads.are_bytes;
     }
   where
     direction : Direction
@@ -259,7 +261,7 @@ accepted-held params h role packet keeps rested k =
     queue = ap (λ e. e.queue) (at_role-put_role h.world.ends role (with_form this form)) ∙ ap (λ q. q ++ form ∷ []) (rested role)
 
 -- what an end of the world writes is handed up
-end-handed_up : (params : EndParams) (h : History) (role : Role) (packet : List ℕ) → Keeps params h → AreBytes packet → is_ipv6 packet ≡ true → ReaderKnows h.world role (accepted (form_of (end_of h.world role) packet)) →
+end-handed_up : (params : EndParams) (h : History) (role : Role) (packet : List ℕ) → Keeps params h → AreBytes packet → has_ipv6_header packet ≡ true → ReaderKnows h.world role (accepted (form_of (end_of h.world role) packet)) →
     IsHandedUpBy h.world.chain (sent_direction role) (end_of h.world role).writes (end_of h.world (taker (sent_direction role))) packet (form_of (end_of h.world role) packet)
 end-handed_up params h role packet k bytes ipv6 knows =
     let from = end_of h.world role in
@@ -285,6 +287,7 @@ brought-carried params h role packet form writer to after k before ups b =
         writer = writer;
         written_with = k.written_with;
         same_packet = k.restores;
+        are_bytes = k.are_bytes;
         leads_here = refl;
       };
       at_rest = rested-due after.world b.rested;

@@ -3,8 +3,8 @@ use Rattle.std.proofs.Common.{ℕ, List, [], ◌∷◌, take}
 use Rattle.std.specs.List.{AllByRecursion}
 use Rattle.schc_bits.proofs.ListLemmas.{all-take, all-weaken}
 use Rattle.schc_ids.specs.declared.ends.EndParams.{EndParams}
-use Rattle.event_data.specs.Events.{Event, Down, Slot, Deliver, Tick, Abort, Publish, Offer, Allow}
-use Rattle.two_ends.specs.Fits.{Fits, FitsEvent, HandsBytes}
+use Rattle.event_data.specs.Events.{Event, Down, Slot, Deliver, Tick, Abort, Publish, Offer, Allow, HandsBytes}
+use Rattle.two_ends.specs.Fits.{Fits, FitsEvent}
 use Rattle.two_ends.specs.History.{History, start, after_step, next, run}
 use Rattle.two_ends.specs.Safe.{IsSafe, AlwaysSafe}
 use Rattle.two_ends.proofs.ChainKept.{ChainKept, chain-start, chain-step}

@@ -9,3 +9,4 @@ pub mod UpsKept
 pub mod KeepsLemmas
 pub mod RestLemmas
 pub mod CleanLemmas
+pub mod OffersLemmas

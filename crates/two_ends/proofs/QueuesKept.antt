@@ -13,20 +13,19 @@ use Rattle.rule_model.specs.declared.finding.Finding.{Finding}
 use Rattle.editions.specs.Data.{EditionData}
 use Rattle.publishing.specs.Published.{published}
 use Rattle.packer.specs.declared.packing.Packed.{Packed}
-use Rattle.packer.specs.Packets.{is_ipv6}
+use Rattle.ip_udp_fields.specs.Fields.{has_ipv6_header}
 use Rattle.packer.specs.Packing.{packed}
 use Rattle.event_data.specs.Records.{FrameData}
-use Rattle.event_data.specs.Events.{Event, Down, Slot, Deliver, Tick, Abort, Publish, Offer, Allow}
+use Rattle.event_data.specs.Events.{Event, Down, Slot, Deliver, Tick, Abort, Publish, Offer, Allow, HandsBytes}
 use Rattle.event_data.specs.declared.events.Target.{Target}
 use Rattle.event_data.specs.declared.events.Target.TheVariants as target
 use Rattle.end_core.specs.Data.{EndData}
 use Rattle.end_core.specs.End.{form_of, accepted, with_form, emitted, without_first}
 use Rattle.end_core.specs.Events as at_end
 use Rattle.end_core.specs.EndStep.{end_step}
-use Rattle.end_core.proofs.PackedLemmas.{packed-edition}
+use Rattle.packer.proofs.PackedLemmas.{packed-edition}
 use Rattle.end_core.proofs.StepLemmas.{Does, end_step-does}
 use Rattle.two_ends.specs.World.{end_of, taker, frames_of, last_edition, numbered, sent_after, answered, end_event, deliver_step, tick_step, publish_step, offer_step, step}
-use Rattle.two_ends.specs.Fits.{HandsBytes}
 use Rattle.two_ends.specs.Labels.{queued_after}
 use Rattle.two_ends.specs.Logs.{HandedDown, handed_down, new_downs}
 use Rattle.two_ends.specs.History.{History, start, after_step, next}
@@ -40,7 +39,7 @@ pub record IsFormOf (iids : Iids) (h : History) (direction : Direction) (form : 
   pub earlier : w.place < h.place
   pub same_direction : w.direction ≡ direction
   pub are_bytes : AreBytes w.packet
-  pub ipv6 : is_ipv6 w.packet ≡ true
+  pub ipv6 : has_ipv6_header w.packet ≡ true
   pub writer : EditionData
   pub written_with : slice_get h.world.chain w.accepted.edition ≡ Some writer
   pub is_form : form ≡ packed writer iids w.direction w.packet
@@ -84,7 +83,7 @@ same-queue iids new ends queued role this same k =
 
 -- a packet that was accepted leads to its hand-down
 accepted-leads : (params : EndParams) (h new : History) (role : Role) (packet : List ℕ) → Grown h new → new.logs.downs ≡ h.logs.downs ++ handed_down h.place (sent_direction role) packet (accepted (form_of (end_of h.world role) packet)) ∷ [] →
-    EndKeeps params h.world.chain role (end_of h.world role) → AreBytes packet → is_ipv6 packet ≡ true → IsSomeAnd (slice_get new.logs.downs (length h.logs.downs)) (IsFormOf params.iids new (sent_direction role) (form_of (end_of h.world role) packet))
+    EndKeeps params h.world.chain role (end_of h.world role) → AreBytes packet → has_ipv6_header packet ≡ true → IsSomeAnd (slice_get new.logs.downs (length h.logs.downs)) (IsFormOf params.iids new (sent_direction role) (form_of (end_of h.world role) packet))
 accepted-leads params h new role packet g downs k bytes ipv6 =
     subst (λ o. IsSomeAnd o (IsFormOf params.iids new (sent_direction role) form)) (sym (ap (λ d. slice_get d (length h.logs.downs)) downs ∙ slice_get-last h.logs.downs w))
     (record {

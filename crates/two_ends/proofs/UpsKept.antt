@@ -31,7 +31,7 @@ use Rattle.two_ends.specs.History.{History, start, after_step, next}
 use Rattle.packer.proofs.ChosenLemmas.{packed-chosen}
 use Rattle.two_ends.proofs.LedLemmas.{led-at, some-weaken, some-moved}
 use Rattle.two_ends.proofs.GrownLemmas.{Grown, grown, label-leads}
-use Rattle.end_core.proofs.AgreeLemmas.{agree-in_chain}
+use Rattle.packer.proofs.AgreeLemmas.{agree-in_chain}
 use Rattle.end_core.proofs.ReadBackLemmas.{packed-known, reads-frame, reader-knows}
 use Rattle.two_ends.proofs.ChainKept.{ChainKept}
 use Rattle.two_ends.proofs.EndsKept.{EndKeeps, EndsKept}

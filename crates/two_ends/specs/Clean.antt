@@ -1,5 +1,6 @@
 -- A run in which nothing is lost: a packet that is handed down arrives, once.
 use Rattle.std.specs.Prelude.{◌≡◌, ℕ, zero, suc, ◌≤◌, List, [], ◌∷◌, ◌++◌, length, Some, None, Result, Ok, slice_get}
+use Rattle.schc_bits.specs.Bits.{AreBytes}
 use Rattle.schc_ids.specs.Ends.{sent_direction, other_role}
 use Rattle.schc_ids.specs.declared.ends.EndParams.{EndParams}
 use Rattle.schc_ids.specs.declared.ends.Role.{Role}
@@ -54,7 +55,7 @@ abbrev pub ReaderKnows : WorldData → Role → Accepted → Type 0
 ReaderKnows w role accepted = accepted.edition ≤ (end_of w (other_role role)).known.number
 
 -- exactly one more packet was handed up, from this direction and under the RuleID of this one: it is what the other end
--- restores of this one under the rule, and its label leads to the packet that was handed down with this index
+-- restores of this one under the rule, it is bytes, and its label leads to the packet that was handed down with this index
 pub record BringsUp (before after : List HandedUp) (chain : List EditionData) (direction : Direction) (packet : List ℕ) (accepted : Accepted) (index : ℕ) : Type 0 where
   pub entry : HandedUp
   pub one_more : after ≡ before ++ entry ∷ []
@@ -63,6 +64,7 @@ pub record BringsUp (before after : List HandedUp) (chain : List EditionData) (d
   pub writer : EditionData
   pub written_with : slice_get chain accepted.edition ≡ Some writer
   pub same_packet : RestoresUnder writer direction accepted.rule_id packet entry.packet
+  pub are_bytes : AreBytes entry.packet
   pub leads_here : entry.label ≡ Some (Whole index)
 
 -- a packet that was handed down at an end was carried, from the history before to the one after: it was handed up

@@ -5,6 +5,7 @@ use Rattle.std.specs.List.{AllByRecursion}
 use Rattle.schc_bits.specs.Bits.{AreBytes}
 use Rattle.schc_ids.specs.Params.{IsParams}
 use Rattle.schc_ids.specs.declared.ends.EndParams.{EndParams}
+pub use Rattle.event_data.specs.Events.{HandsBytes}
 use Rattle.event_data.specs.Events.{Event, Down, Slot, Deliver, Tick, Abort, Publish, Offer, Allow}
 
 -- parameters that an end may be made with
@@ -21,11 +22,6 @@ FitsEvent (Abort role) = Unit {0}
 FitsEvent (Publish edition) = edition.number < 2 ^ 32
 FitsEvent (Offer role number) = number < 2 ^ 32
 FitsEvent (Allow role number) = number < 2 ^ 32
-
--- an event that hands down bytes, if it hands down a packet: of the ranges this is all that matters for what is handed up
-abbrev pub HandsBytes : Event → Type 0
-HandsBytes (Down role packet) = AreBytes packet
-HandsBytes event = Unit {0}
 
 -- the parameters are within their limits, and each number and byte of the events is one of its type
 pub record Fits (params : EndParams) (events : List Event) : Type 0 where

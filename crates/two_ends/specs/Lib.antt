@@ -5,3 +5,4 @@ pub mod Logs
 pub mod History
 pub mod Safe
 pub mod Clean
+pub mod Offers

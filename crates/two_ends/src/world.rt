@@ -2,7 +2,7 @@ ghost use Rattle.std.specs.Prelude.{◌≡◌, IfOk, IfErr, OnErr, ◌⊎◌};
 ghost use Rattle.std.specs.Option.{option_copied};
 ghost use Rattle.event_data.specs.Events.{view_event, Down, Slot, Deliver, Tick, Abort, Publish, Offer, Allow};
 ghost use Rattle.event_data.specs.Records.{FrameData};
-ghost use Rattle.event_data.specs.Outcomes.{IsNote, IsLineOf};
+ghost use Rattle.event_data.specs.Outcomes.{IsNote, IsLineOf, HasHappened};
 ghost use Rattle.end_core.specs.End.{slot_step, take_step};
 ghost use Rattle.schc_ids.specs.Params.{IsParams};
 ghost use Rattle.two_ends.specs.World.{beginning, numbered, step, sent_after};
@@ -74,6 +74,7 @@ impl World {
         ensures refused { IfErr result (λ fault. (fault ≡ StepFault.Memory) ⊎ (step self.old (view_event event.now) ≡ (self.old, Err fault))) }
         ensures unchanged { OnErr result (self.new ≡ self.old) }
         ensures outcome { IfOk result (λ line. IsLineOf (view_event event.now) line) }
+        ensures happened { IfOk result HasHappened }
     {
         match event {
             WorldEvent::Down(role, packet) => self.down(*role, packet.as_slice()),
@@ -97,6 +98,7 @@ impl World {
         ensures refused { IfErr result (λ fault. fault ≡ StepFault.Memory) }
         ensures unchanged { OnErr result (self.new ≡ self.old) }
         ensures outcome { IfOk result (λ line. IsLineOf (Down role packet.now) line) }
+        ensures happened { IfOk result HasHappened }
     {
         let answer = match role {
             Role::Device => self.device.down(packet),
@@ -119,6 +121,7 @@ impl World {
         ensures refused { IfErr result (λ fault. fault ≡ StepFault.Memory) }
         ensures unchanged { OnErr result (self.new ≡ self.old) }
         ensures outcome { IfOk result (λ line. IsLineOf (Slot role) line) }
+        ensures happened { IfOk result HasHappened }
     {
         let emitted = match role {
             Role::Device => emit(self.alloc, &mut self.device, &mut self.up),
@@ -141,6 +144,7 @@ impl World {
         ensures refused { IfErr result (λ fault. (fault ≡ StepFault.Memory) ⊎ (step self.old (Deliver direction number) ≡ (self.old, Err fault))) }
         ensures unchanged { OnErr result (self.new ≡ self.old) }
         ensures outcome { IfOk result (λ line. IsLineOf (Deliver direction number) line) }
+        ensures happened { IfOk result HasHappened }
     {
         let taken = match direction {
             Direction::Up => arrive(&mut self.gateway, &self.up, number)?,
@@ -154,6 +158,7 @@ impl World {
     fn tick(&mut self, target: Target) -> Line
         ensures done { step self.old (Tick target) ≡ (self.new, Ok result) }
         ensures outcome { IsLineOf (Tick target) result }
+        ensures happened { HasHappened result }
     {
         match target {
             Target::Device => Line::Tick(self.device.tick(), None),
@@ -170,6 +175,7 @@ impl World {
     fn abort(&mut self, role: Role) -> Line
         ensures done { step self.old (Abort role) ≡ (self.new, Ok result) }
         ensures outcome { IsLineOf (Abort role) result }
+        ensures happened { HasHappened result }
     {
         let report = match role {
             Role::Device => self.device.abort(),
@@ -189,6 +195,7 @@ impl World {
         ensures refused { IfErr result (λ fault. fault ≡ StepFault.Memory) }
         ensures unchanged { OnErr result (self.new ≡ self.old) }
         ensures outcome { IfOk result (λ line. IsLineOf (Publish raw.now) line) }
+        ensures happened { IfOk result HasHappened }
     {
         let edition = match publish(self.alloc, self.chain.last(), raw) {
             Ok(edition) => edition,
@@ -213,6 +220,7 @@ impl World {
         ensures refused { IfErr result (λ fault. (fault ≡ StepFault.Memory) ⊎ (step self.old (Offer role number) ≡ (self.old, Err fault))) }
         ensures unchanged { OnErr result (self.new ≡ self.old) }
         ensures outcome { IfOk result (λ line. IsLineOf (Offer role number) line) }
+        ensures happened { IfOk result HasHappened }
     {
         let Some(edition) = self.chain.at(number) else {
             return Err(StepFault::NoSuchEdition(number));
@@ -233,6 +241,7 @@ impl World {
     fn allow(&mut self, role: Role, number: u32) -> Line
         ensures done { step self.old (Allow role number) ≡ (self.new, Ok result) }
         ensures outcome { IsLineOf (Allow role number) result }
+        ensures happened { HasHappened result }
     {
         let allowed = match role {
             Role::Device => self.device.allow(number),
