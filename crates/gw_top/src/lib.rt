@@ -9,8 +9,3 @@ mod words;
 
 pub use command::run;
 pub use status::{Counted, Status};
-
-#[cfg(test)]
-mod rule_files;
-#[cfg(test)]
-mod tests;

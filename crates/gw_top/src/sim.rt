@@ -1,6 +1,6 @@
 //! The run of a script, as it is printed.
 
-ghost use Rattle.std.specs.Prelude.{◌≡◌, IfOk, OnOk};
+ghost use Rattle.std.specs.Prelude.{◌≡◌, IfOk, OnOk, string_bytes};
 ghost use Rattle.schc_ids.specs.Params.{IsParams};
 ghost use Rattle.event_data.specs.Outcomes.{IsLineOf};
 ghost use Rattle.two_ends.specs.World.{step, beginning};
@@ -12,7 +12,7 @@ use rule_model::DeviceLine;
 use schc_ids::{EndParams, Iids};
 use script_lang::{Script, ScriptEvent};
 use std::alloc::{AllocError, Global};
-use transcripts::line_text;
+use transcripts::with_line;
 use two_ends::World;
 
 /// What is printed for a script: a line for each event of its run.
@@ -22,7 +22,8 @@ use two_ends::World;
 pub(crate) fn simulate(alloc: Global, script: &Script) -> Result<Vec<u8>, AllocError>
     ensures { IfOk result (λ text. text.items ≡ printed script.now (run_of script.now)) }
 {
-    lines(alloc, params(script.devices()), script.events())
+    let text = lines(alloc, params(script.devices()), script.events())?;
+    Ok(text.into_bytes())
 }
 
 /// The parameters of the device that is declared. Where none is, only publications happen, whose
@@ -39,16 +40,15 @@ fn params(devices: &[DeviceLine]) -> EndParams
 }
 
 /// The lines of a run of these events from the beginning.
-fn lines(alloc: Global, params: EndParams, events: &[ScriptEvent]) -> Result<Vec<u8>, AllocError>
+fn lines(alloc: Global, params: EndParams, events: &[ScriptEvent]) -> Result<String, AllocError>
     requires { IsParams params }
-    ensures { IfOk result (λ text. text.items ≡ lines_from 1 events.now (outcomes_from (beginning params) events.now)) }
+    ensures { IfOk result (λ text. string_bytes text ≡ lines_from 1 events.now (outcomes_from (beginning params) events.now)) }
 {
     let mut world = World::new(alloc, params)?;
-    let mut text = Vec::new(alloc);
+    let mut text = String::new(alloc);
     for (index, event) in events.iter().enumerate() {
         let said = outcome(&mut world, event)?;
-        let line = line_text(alloc, event.device, &event.event, &said, index as u64 + 1)?;
-        text.extend_from_slice(line.as_slice())?;
+        text = with_line(text, event.device, &event.event, &said, index as u64 + 1)?;
     }
     Ok(text)
 }

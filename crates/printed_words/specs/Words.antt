@@ -4,6 +4,7 @@ use Rattle.std.specs.Fmt.{decimal}
 use Rattle.hex.specs.Hex.{encode_lower}
 use Rattle.schc_ids.specs.declared.names.FieldName.{FieldName}
 use Rattle.schc_ids.specs.declared.names.FieldName.TheVariants.{CoapOption}
+use Rattle.schc_ids.specs.declared.names.FieldAt.{FieldAt}
 use Rattle.schc_ids.specs.declared.faults.ResidueFault.{ResidueFault}
 use Rattle.schc_ids.specs.declared.faults.ResidueFault.TheVariants as residue
 use Rattle.schc_ids.specs.declared.faults.UnpackFault.{UnpackFault}
@@ -29,6 +30,10 @@ text_or None name = number_text name
 unfoldable pub field_text : FieldName → List ℕ
 field_text name = text_or (text_of name) name
 
+-- the name of a field, and which one of its name it is, from 1
+abbrev pub place_text : FieldAt → List ℕ
+place_text at = field_text at.name ++ (codes " " ++ decimal at.position)
+
 -- the word for why a residue can't be read
 abbrev pub residue_text : ResidueFault → List ℕ
 residue_text residue.Short = codes "short"
@@ -44,7 +49,7 @@ IsUnread _ = Unit {0}
 unfoldable pub unread_text : UnpackFault → List ℕ
 unread_text (unread.UnknownRule id) = codes "unknown-rule " ++ decimal id
 unread_text (unread.BadResidue entry why) = codes "bad-residue " ++ (decimal entry ++ (codes " " ++ residue_text why))
-unread_text (unread.BadPacket at) = codes "bad-packet " ++ (field_text at.name ++ (codes " " ++ decimal at.position))
+unread_text (unread.BadPacket at) = codes "bad-packet " ++ place_text at
 unread_text unread.Memory = []
 
 -- a finding: its number, its name, and the rule and entry it is about, or 0

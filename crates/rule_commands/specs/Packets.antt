@@ -14,12 +14,14 @@ use Rattle.rule_json.specs.Texts.{work_of}
 use Rattle.editions.specs.Data.{EditionData, first_edition}
 use Rattle.publishing.specs.Published.{published}
 use Rattle.packer.specs.UnpackedData.{UnpackedData}
-use Rattle.packer.specs.Packets.{is_ipv6}
+use Rattle.ip_udp_fields.specs.Fields.{has_ipv6_header}
 use Rattle.packer.specs.Packing.{packed}
 use Rattle.packer.specs.Unpacking.{unpacked}
 use Rattle.packer.specs.declared.packing.Packed.{Packed}
 use Rattle.printed_words.specs.Words.{bytes_text, unread_text}
 use Rattle.rule_commands.specs.OutputData.{OutputData}
+use Rattle.rule_commands.specs.declared.working.Task.{Task}
+use Rattle.rule_commands.specs.declared.working.Task.TheVariants.{Pack, Unpack}
 
 -- goes on with the next edition, if there is no finding
 abbrev pub then_last : Result EditionData Finding → (EditionData → Result EditionData Finding) → Result EditionData Finding
@@ -39,7 +41,7 @@ written_text w =
 -- the outcome of `pack` for a packet
 unfoldable pub pack_outcome : EditionData → Iids → Direction → List ℕ → List ℕ
 pack_outcome edition iids way packet =
-    if not (is_ipv6 packet) then codes "refused not-ipv6"
+    if not (has_ipv6_header packet) then codes "refused not-ipv6"
     else if nat_lt max_packet (length packet) then codes "refused too-long"
     else written_text (packed edition iids way packet)
 
@@ -61,24 +63,22 @@ abbrev pub packet_lines : (List ℕ → List ℕ) → ℕ → List (List ℕ) �
 packet_lines outcome place [] = []
 packet_lines outcome place (packet ∷ later) = packet_line place (outcome packet) ++ packet_lines outcome (place + 1) later
 
--- the output of `pack` or `unpack`, by the last edition: nothing where an edition has a finding
-abbrev pub worked_with : (EditionData → List ℕ → List ℕ) → List (List ℕ) → Result EditionData Finding → OutputData
-worked_with outcome packets (Err finding) = record { text = []; refused = Some finding }
-worked_with outcome packets (Ok edition) = record { text = packet_lines (outcome edition) 1 packets; refused = None }
+-- the outcome that a task has for a packet of a work file, by this edition
+unfoldable pub outcome_of : Task → WorkData → EditionData → List ℕ → List ℕ
+outcome_of Pack work edition packet = pack_outcome edition work.iids work.direction packet
+outcome_of Unpack work edition packet = unpack_outcome edition work.iids work.direction packet
 
--- the output of `pack` for a work file
-unfoldable pub packed_work : WorkData → OutputData
-packed_work work =
-    worked_with (λ edition packet. pack_outcome edition work.iids work.direction packet) work.packets (last_from first_edition work.editions)
+-- the output of a task for a work file, by the file's last edition: nothing where an edition has a finding
+abbrev pub worked_with : Task → WorkData → Result EditionData Finding → OutputData
+worked_with task work (Err finding) = record { text = []; refused = Some finding }
+worked_with task work (Ok edition) = record { text = packet_lines (outcome_of task work edition) 1 work.packets; refused = None }
 
--- the output of `unpack` for a work file
-unfoldable pub unpacked_work : WorkData → OutputData
-unpacked_work work =
-    worked_with (λ edition packet. unpack_outcome edition work.iids work.direction packet) work.packets (last_from first_edition work.editions)
+abbrev pub worked : Task → WorkData → OutputData
+worked task work = worked_with task work (last_from first_edition work.editions)
 
 -- the outputs for a text; none where it is no work file
 abbrev pub pack_of : List ℕ → Option OutputData
-pack_of text = option_map packed_work (work_of text)
+pack_of text = option_map (worked Pack) (work_of text)
 
 abbrev pub unpack_of : List ℕ → Option OutputData
-unpack_of text = option_map unpacked_work (work_of text)
+unpack_of text = option_map (worked Unpack) (work_of text)

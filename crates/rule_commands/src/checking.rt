@@ -1,13 +1,13 @@
 //! Which editions of a context can be published.
 
-ghost use Rattle.std.specs.Prelude.{◌≡◌, ◌⊎◌, None, Some, not, filter, length, IfOk, IfErr, string_bytes};
+ghost use Rattle.std.specs.Prelude.{◌≡◌, ◌⊎◌, None, Some, not, filter, length, ◌++◌, OnOk, IfOk, IfErr, string_bytes};
 ghost use Rattle.editions.specs.Data.{first_edition};
 ghost use Rattle.rule_commands.specs.Checking.{edition_line, refused_line, checked_from, check_of};
 
 use crate::chains::next;
 use crate::output::Output;
 use editions::{Edition, Listed};
-use printed_words::finding_text;
+use printed_words::push_finding;
 use rule_json::{JsonFault, read_context};
 use rule_model::{Finding, RawEdition};
 use std::alloc::{AllocError, Global};
@@ -34,25 +34,26 @@ fn retired_rules(rules: &[Listed]) -> usize
     count
 }
 
-/// The line of an edition that can be published.
+/// Writes the line of an edition that can be published.
 #[tactic(auto, unfolding(crate::specs::Checking::edition_line))]
-fn edition_line(alloc: Global, edition: &Edition) -> Result<String, AllocError>
-    ensures { IfOk result (λ text. string_bytes text ≡ edition_line edition.now) }
+fn push_edition(text: &mut String, edition: &Edition) -> Result<(), AllocError>
+    ensures { OnOk result (string_bytes text.new ≡ string_bytes text.old ++ edition_line edition.now) }
 {
     let number = edition.number();
     let live = live_rules(edition.rules());
     let retired = retired_rules(edition.rules());
-    format!(in alloc; "edition {number} ok live {live} retired {retired}\n")
+    write!(text, "edition {number} ok live {live} retired {retired}\n")
 }
 
-/// The line of an edition that can't be published.
+/// Writes the line of an edition that can't be published.
 #[tactic(auto, unfolding(crate::specs::Checking::refused_line))]
-fn refused_line(alloc: Global, raw: &RawEdition, finding: Finding) -> Result<String, AllocError>
-    ensures { IfOk result (λ text. string_bytes text ≡ refused_line raw.now finding) }
+fn push_refused(text: &mut String, raw: &RawEdition, finding: Finding) -> Result<(), AllocError>
+    ensures { OnOk result (string_bytes text.new ≡ string_bytes text.old ++ refused_line raw.now finding) }
 {
     let number = raw.number;
-    let finding = finding_text(alloc, finding)?;
-    format!(in alloc; "edition {number} {finding}\n")
+    write!(text, "edition {number} ")?;
+    push_finding(text, finding)?;
+    text.push_str("\n")
 }
 
 /// The lines of these editions, each of which is to follow the one before, up to the first that can't.
@@ -60,26 +61,24 @@ fn checked_from(alloc: Global, editions: &[RawEdition]) -> Result<Output, AllocE
     ensures { IfOk result (λ output. output ≡ checked_from first_edition editions.now) }
 {
     let mut last = Edition::empty(alloc);
-    let mut text = Vec::new(alloc);
+    let mut text = String::new(alloc);
     for raw in editions {
         match next(alloc, &last, raw)? {
             Ok(edition) => {
-                let line = edition_line(alloc, &edition)?;
-                text.extend_from_slice(line.as_bytes())?;
+                push_edition(&mut text, &edition)?;
                 last = edition;
             }
             Err(finding) => {
-                let line = refused_line(alloc, raw, finding)?;
-                text.extend_from_slice(line.as_bytes())?;
+                push_refused(&mut text, raw, finding)?;
                 return Ok(Output {
-                    text,
+                    text: text.into_bytes(),
                     refused: Some(finding),
                 });
             }
         }
     }
     Ok(Output {
-        text,
+        text: text.into_bytes(),
         refused: None,
     })
 }

@@ -6,11 +6,9 @@ mod chains;
 mod checking;
 mod output;
 mod packing;
-#[cfg(test)]
-mod tests;
 mod unpacking;
+mod working;
 
 pub use checking::check;
 pub use output::Output;
-pub use packing::pack;
-pub use unpacking::unpack;
+pub use working::{pack, unpack};

@@ -1,10 +1,9 @@
 //! What a command prints.
 
-ghost use Rattle.std.specs.Prelude.{◌≡◌, [], Some, IfOk, string_bytes};
-ghost use Rattle.rule_commands.specs.Packets.{packet_line};
+ghost use Rattle.std.specs.Prelude.{◌≡◌, [], Some};
 
 use rule_model::Finding;
-use std::alloc::{AllocError, Global};
+use std::alloc::Global;
 use std::marker::Model;
 
 /// What a command prints, and the finding that ends it, if one does.
@@ -30,12 +29,4 @@ pub(crate) fn refused(alloc: Global, finding: Finding) -> Output
         text: Vec::new(alloc),
         refused: Some(finding),
     }
-}
-
-/// The line of a packet, which has this place, counted from 1.
-#[tactic(auto, unfolding(crate::specs::Packets::packet_line))]
-pub(crate) fn packet_line(alloc: Global, place: u64, outcome: &str) -> Result<String, AllocError>
-    ensures { IfOk result (λ text. string_bytes text ≡ packet_line place outcome.now) }
-{
-    format!(in alloc; "{place} {outcome}\n")
 }

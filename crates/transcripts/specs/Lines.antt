@@ -109,15 +109,20 @@ unfoldable pub report_at : Role → Option Report → List ℕ
 report_at role None = []
 report_at role (Some report) = codes " report " ++ (role_text role ++ (codes " " ++ session_text report))
 
--- the frame that a slot gave, if it gave one
+-- a frame with its number
 unfoldable pub frame_text : ℕ → FrameData → List ℕ
 frame_text number frame =
     codes "frame " ++ (decimal number ++ (codes " port " ++ (decimal frame.port ++ (codes " " ++ bytes_text frame.bytes))))
 
+-- the same, what the frame carries, and the session that ended with it
+unfoldable pub emission_text : Emission → List ℕ
+emission_text e =
+    frame_text e.number e.emitted.frame ++ (codes " " ++ (kind_text e.emitted.kind ++ report_text e.emitted.report))
+
+-- what a slot gave: a frame, or nothing
 unfoldable pub slot_text : Option Emission → List ℕ
 slot_text None = codes "none"
-slot_text (Some e) =
-    frame_text e.number e.emitted.frame ++ (codes " " ++ (kind_text e.emitted.kind ++ report_text e.emitted.report))
+slot_text (Some e) = emission_text e
 
 -- why a message can't be read
 abbrev pub wire_text : WireFault → List ℕ

@@ -1,11 +1,11 @@
 //! The ends of sessions.
 
-ghost use Rattle.std.specs.Prelude.{◌≡◌, IfOk, string_bytes};
+ghost use Rattle.std.specs.Prelude.{◌≡◌, ◌++◌, OnOk, string_bytes};
 ghost use Rattle.transcripts.specs.Lines.{fail_text, ended_text, session_text, report_text, report_at, tick_text, abort_text};
 
 use crate::words::role_text;
 use schc_ids::{FailCause, Report, ReportKind, Role};
-use std::alloc::{AllocError, Global};
+use std::alloc::AllocError;
 
 fn fail_text(cause: FailCause) -> &'static str
     ensures { result.now ≡ fail_text cause }
@@ -28,69 +28,69 @@ fn ended_text(kind: ReportKind) -> &'static str
     }
 }
 
-/// The end of a session: its number, and how it ended.
+/// Writes the end of a session: its number, and how it ended.
 #[tactic(auto, unfolding(crate::specs::Lines::session_text))]
-fn session_text(alloc: Global, report: Report) -> Result<String, AllocError>
-    ensures { IfOk result (λ text. string_bytes text ≡ session_text report) }
+fn push_session(text: &mut String, report: Report) -> Result<(), AllocError>
+    ensures { OnOk result (string_bytes text.new ≡ string_bytes text.old ++ session_text report) }
 {
     let session = report.session;
     let kind = ended_text(report.kind);
-    format!(in alloc; "{session} {kind}")
+    write!(text, "{session} {kind}")
 }
 
-/// The end of a session after what else a line says, if one ended.
+/// Writes the end of a session behind what else a line says, if one ended.
 #[tactic(auto, unfolding(crate::specs::Lines::report_text))]
-pub(crate) fn report_text(alloc: Global, report: Option<Report>) -> Result<String, AllocError>
-    ensures { IfOk result (λ text. string_bytes text ≡ report_text report) }
+pub(crate) fn push_report(text: &mut String, report: Option<Report>) -> Result<(), AllocError>
+    ensures { OnOk result (string_bytes text.new ≡ string_bytes text.old ++ report_text report) }
 {
     match report {
         Some(report) => {
-            let session = session_text(alloc, report)?;
-            format!(in alloc; " report {session}")
+            text.push_str(" report ")?;
+            push_session(text, report)
         }
-        None => Ok(String::new(alloc)),
+        None => Ok(()),
     }
 }
 
 /// The same at one end, which is named.
 #[tactic(auto, unfolding(crate::specs::Lines::report_at))]
-fn report_at(alloc: Global, role: Role, report: Option<Report>) -> Result<String, AllocError>
-    ensures { IfOk result (λ text. string_bytes text ≡ report_at role report) }
+fn push_report_at(text: &mut String, role: Role, report: Option<Report>) -> Result<(), AllocError>
+    ensures { OnOk result (string_bytes text.new ≡ string_bytes text.old ++ report_at role report) }
 {
     match report {
         Some(report) => {
             let role = role_text(role);
-            let session = session_text(alloc, report)?;
-            format!(in alloc; " report {role} {session}")
+            write!(text, " report {role} ")?;
+            push_session(text, report)
         }
-        None => Ok(String::new(alloc)),
+        None => Ok(()),
     }
 }
 
-/// The sessions that ended at a tick.
+/// Writes which sessions ended at a tick.
 #[tactic(auto, unfolding(crate::specs::Lines::tick_text))]
-pub(crate) fn tick_text(
-    alloc: Global,
+pub(crate) fn push_tick(
+    text: &mut String,
     device: Option<Report>,
     gateway: Option<Report>,
-) -> Result<String, AllocError>
-    ensures { IfOk result (λ text. string_bytes text ≡ tick_text device gateway) }
+) -> Result<(), AllocError>
+    ensures { OnOk result (string_bytes text.new ≡ string_bytes text.old ++ tick_text device gateway) }
 {
-    let device = report_at(alloc, Role::Device, device)?;
-    let gateway = report_at(alloc, Role::Gateway, gateway)?;
-    format!(in alloc; "ok{device}{gateway}")
+    text.push_str("ok")?;
+    push_report_at(text, Role::Device, device)?;
+    push_report_at(text, Role::Gateway, gateway)
 }
 
-/// The session that was given up, if one was under way.
+/// Writes which session was given up, if one was under way.
 #[tactic(auto, unfolding(crate::specs::Lines::abort_text))]
-pub(crate) fn abort_text(alloc: Global, report: Option<Report>) -> Result<String, AllocError>
-    ensures { IfOk result (λ text. string_bytes text ≡ abort_text report) }
+pub(crate) fn push_abort(text: &mut String, report: Option<Report>) -> Result<(), AllocError>
+    ensures { OnOk result (string_bytes text.new ≡ string_bytes text.old ++ abort_text report) }
 {
     match report {
         Some(report) => {
-            let session = session_text(alloc, report)?;
-            format!(in alloc; "report {session}")
+            text.push_str("report ")?;
+            push_session(text, report)
         }
-        None => String::from_str(alloc, "none"),
+        None => text.push_str("none"),
     }
 }

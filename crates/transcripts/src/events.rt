@@ -1,51 +1,51 @@
 //! The words of events.
 
-ghost use Rattle.std.specs.Prelude.{◌≡◌, IfOk, string_bytes};
+ghost use Rattle.std.specs.Prelude.{◌≡◌, ◌++◌, OnOk, string_bytes};
 ghost use Rattle.event_data.specs.Events.{view_event};
 ghost use Rattle.transcripts.specs.Lines.{event_text};
 
 use crate::words::{direction_text, role_text, target_text};
 use event_data::WorldEvent;
-use std::alloc::{AllocError, Global};
+use std::alloc::AllocError;
 
-/// The words of an event, without the packet of a hand-down.
+/// Writes the words of an event, without the packet of a hand-down.
 #[tactic(auto, unfolding(crate::specs::Lines::event_text))]
-pub(crate) fn event_text(
-    alloc: Global,
+pub(crate) fn push_event(
+    text: &mut String,
     device: u16,
     event: &WorldEvent,
-) -> Result<String, AllocError>
-    ensures { IfOk result (λ text. string_bytes text ≡ event_text device (view_event event.now)) }
+) -> Result<(), AllocError>
+    ensures { OnOk result (string_bytes text.new ≡ string_bytes text.old ++ event_text device (view_event event.now)) }
 {
     match event {
         WorldEvent::Down(role, _) => {
             let role = role_text(*role);
-            format!(in alloc; "hand {device} {role}")
+            write!(text, "hand {device} {role}")
         }
         WorldEvent::Slot(role) => {
             let role = role_text(*role);
-            format!(in alloc; "slot {device} {role}")
+            write!(text, "slot {device} {role}")
         }
         WorldEvent::Deliver(direction, place) => {
             let direction = direction_text(*direction);
-            format!(in alloc; "deliver {device} {direction} {place}")
+            write!(text, "deliver {device} {direction} {place}")
         }
         WorldEvent::Tick(target) => {
             let target = target_text(*target);
-            format!(in alloc; "tick {device} {target}")
+            write!(text, "tick {device} {target}")
         }
         WorldEvent::Abort(role) => {
             let role = role_text(*role);
-            format!(in alloc; "abort {device} {role}")
+            write!(text, "abort {device} {role}")
         }
-        WorldEvent::Publish(_) => String::from_str(alloc, "publish"),
+        WorldEvent::Publish(_) => text.push_str("publish"),
         WorldEvent::Offer(role, number) => {
             let role = role_text(*role);
-            format!(in alloc; "offer {device} {role} {number}")
+            write!(text, "offer {device} {role} {number}")
         }
         WorldEvent::Allow(role, number) => {
             let role = role_text(*role);
-            format!(in alloc; "allow {device} {role} {number}")
+            write!(text, "allow {device} {role} {number}")
         }
     }
 }

@@ -5,8 +5,6 @@ mod ended;
 mod events;
 mod lines;
 mod outcomes;
-#[cfg(test)]
-mod tests;
 mod words;
 
-pub use lines::line_text;
+pub use lines::{line_text, with_line};

@@ -1,163 +1,168 @@
 //! The outcomes of events.
 
-ghost use Rattle.std.specs.Prelude.{◌≡◌, IfOk, string_bytes};
+ghost use Rattle.std.specs.Prelude.{◌≡◌, ◌++◌, OnOk, string_bytes};
 ghost use Rattle.event_data.specs.Outcomes.{IsNote};
-ghost use Rattle.transcripts.specs.Lines.{accepted_text, kind_text, frame_text, slot_text, cause_text, note_text, up_text, taken_text, offered_text, IsSaid, said_text};
+ghost use Rattle.transcripts.specs.Lines.{accepted_text, kind_text, frame_text, slot_text, emission_text, cause_text, note_text, up_text, taken_text, offered_text, IsSaid, said_text};
 
-use crate::ended::{abort_text, report_text, tick_text};
+use crate::ended::{push_abort, push_report, push_tick};
 use crate::words::{allowed_text, refusal_text, wire_text};
 use event_data::{Accepted, Emission, EmitKind, Frame, HandUp, Line, Offered, Taken};
-use printed_words::{bytes_text, finding_text, unread_text};
+use printed_words::{push_bytes, push_finding, push_unread};
 use schc_ids::{Cause, Note};
-use std::alloc::{AllocError, Global};
+use std::alloc::AllocError;
 
-/// How a packet that was handed down will go.
+/// Writes how a packet that was handed down will go.
 #[tactic(auto, unfolding(crate::specs::Lines::accepted_text))]
-fn accepted_text(alloc: Global, accepted: Accepted) -> Result<String, AllocError>
-    ensures { IfOk result (λ text. string_bytes text ≡ accepted_text accepted) }
+fn push_accepted(text: &mut String, accepted: Accepted) -> Result<(), AllocError>
+    ensures { OnOk result (string_bytes text.new ≡ string_bytes text.old ++ accepted_text accepted) }
 {
     let edition = accepted.edition;
     let rule_id = accepted.rule_id;
     let bits = accepted.bits;
-    format!(in alloc; "ok edition {edition} rule {rule_id} bits {bits}")
+    write!(text, "ok edition {edition} rule {rule_id} bits {bits}")
 }
 
-/// What a frame carries.
+/// Writes what a frame carries.
 #[tactic(auto, unfolding(crate::specs::Lines::kind_text))]
-fn kind_text(alloc: Global, kind: EmitKind) -> Result<String, AllocError>
-    ensures { IfOk result (λ text. string_bytes text ≡ kind_text kind) }
+fn push_kind(text: &mut String, kind: EmitKind) -> Result<(), AllocError>
+    ensures { OnOk result (string_bytes text.new ≡ string_bytes text.old ++ kind_text kind) }
 {
     match kind {
-        EmitKind::Whole => String::from_str(alloc, "whole"),
-        EmitKind::Begins(session) => format!(in alloc; "begins {session}"),
-        EmitKind::Goes(session) => format!(in alloc; "goes {session}"),
-        EmitKind::Answers => String::from_str(alloc, "answers"),
+        EmitKind::Whole => text.push_str("whole"),
+        EmitKind::Begins(session) => write!(text, "begins {session}"),
+        EmitKind::Goes(session) => write!(text, "goes {session}"),
+        EmitKind::Answers => text.push_str("answers"),
     }
 }
 
-/// A frame with its number.
+/// Writes a frame with its number.
 #[tactic(auto, unfolding(crate::specs::Lines::frame_text))]
-fn frame_text(alloc: Global, number: u64, frame: &Frame) -> Result<String, AllocError>
-    ensures { IfOk result (λ text. string_bytes text ≡ frame_text number frame.now) }
+fn push_frame(text: &mut String, number: u64, frame: &Frame) -> Result<(), AllocError>
+    ensures { OnOk result (string_bytes text.new ≡ string_bytes text.old ++ frame_text number frame.now) }
 {
     let port = frame.port;
-    let bytes = bytes_text(alloc, frame.bytes.as_slice())?;
-    format!(in alloc; "frame {number} port {port} {bytes}")
+    write!(text, "frame {number} port {port} ")?;
+    push_bytes(text, frame.bytes.as_slice())
 }
 
-/// The frame that a slot gave, if it gave one.
+/// Writes a frame, what it carries, and the session that ended with it.
+#[tactic(auto, unfolding(crate::specs::Lines::emission_text))]
+fn push_emission(text: &mut String, emission: &Emission) -> Result<(), AllocError>
+    ensures { OnOk result (string_bytes text.new ≡ string_bytes text.old ++ emission_text emission.now) }
+{
+    push_frame(text, emission.number, &emission.emitted.frame)?;
+    text.push_str(" ")?;
+    push_kind(text, emission.emitted.kind)?;
+    push_report(text, emission.emitted.report)
+}
+
+/// Writes the frame that a slot gave, if it gave one.
 #[tactic(auto, unfolding(crate::specs::Lines::slot_text))]
-fn slot_text(alloc: Global, emission: &Option<Emission>) -> Result<String, AllocError>
-    ensures { IfOk result (λ text. string_bytes text ≡ slot_text emission.now) }
+fn push_slot(text: &mut String, emission: &Option<Emission>) -> Result<(), AllocError>
+    ensures { OnOk result (string_bytes text.new ≡ string_bytes text.old ++ slot_text emission.now) }
 {
     match emission {
-        Some(emission) => {
-            let frame = frame_text(alloc, emission.number, &emission.emitted.frame)?;
-            let kind = kind_text(alloc, emission.emitted.kind)?;
-            let report = report_text(alloc, emission.emitted.report)?;
-            format!(in alloc; "{frame} {kind}{report}")
-        }
-        None => String::from_str(alloc, "none"),
+        Some(emission) => push_emission(text, emission),
+        None => text.push_str("none"),
     }
 }
 
-/// Why a frame is refused, which is never for want of memory.
+/// Writes why a frame is refused, which is never for want of memory.
 #[tactic(auto, unfolding(crate::specs::Lines::cause_text))]
-fn cause_text(alloc: Global, cause: Cause) -> Result<String, AllocError>
+fn push_cause(text: &mut String, cause: Cause) -> Result<(), AllocError>
     requires { IsNote (Note.Refused cause) }
-    ensures { IfOk result (λ text. string_bytes text ≡ cause_text cause) }
+    ensures { OnOk result (string_bytes text.new ≡ string_bytes text.old ++ cause_text cause) }
 {
     match cause {
-        Cause::UnknownPort => String::from_str(alloc, "port"),
+        Cause::UnknownPort => text.push_str("port"),
         Cause::Wire(fault) => {
             let fault = wire_text(fault);
-            format!(in alloc; "wire {fault}")
+            write!(text, "wire {fault}")
         }
-        Cause::Unpack(fault) => unread_text(alloc, fault),
+        Cause::Unpack(fault) => push_unread(text, fault),
     }
 }
 
-/// What a frame meant.
+/// Writes what a frame meant.
 #[tactic(auto, unfolding(crate::specs::Lines::note_text))]
-fn note_text(alloc: Global, note: Note) -> Result<String, AllocError>
+fn push_note(text: &mut String, note: Note) -> Result<(), AllocError>
     requires { IsNote note }
-    ensures { IfOk result (λ text. string_bytes text ≡ note_text note) }
+    ensures { OnOk result (string_bytes text.new ≡ string_bytes text.old ++ note_text note) }
 {
     match note {
-        Note::Small => String::from_str(alloc, "small"),
-        Note::Stored => String::from_str(alloc, "stored"),
-        Note::Repeat => String::from_str(alloc, "repeat"),
-        Note::Asked => String::from_str(alloc, "asked"),
-        Note::Joined => String::from_str(alloc, "joined"),
-        Note::CheckFailed => String::from_str(alloc, "check-failed"),
-        Note::Remnant => String::from_str(alloc, "remnant"),
-        Note::Acked => String::from_str(alloc, "acked"),
-        Note::PeerAborted => String::from_str(alloc, "peer-aborted"),
-        Note::Overflow => String::from_str(alloc, "overflow"),
+        Note::Small => text.push_str("small"),
+        Note::Stored => text.push_str("stored"),
+        Note::Repeat => text.push_str("repeat"),
+        Note::Asked => text.push_str("asked"),
+        Note::Joined => text.push_str("joined"),
+        Note::CheckFailed => text.push_str("check-failed"),
+        Note::Remnant => text.push_str("remnant"),
+        Note::Acked => text.push_str("acked"),
+        Note::PeerAborted => text.push_str("peer-aborted"),
+        Note::Overflow => text.push_str("overflow"),
         Note::Refused(cause) => {
-            let cause = cause_text(alloc, cause)?;
-            format!(in alloc; "refused {cause}")
+            text.push_str("refused ")?;
+            push_cause(text, cause)
         }
     }
 }
 
-/// What was handed up, if anything was.
+/// Writes what was handed up, if anything was.
 #[tactic(auto, unfolding(crate::specs::Lines::up_text))]
-fn up_text(alloc: Global, up: &Option<HandUp>) -> Result<String, AllocError>
-    ensures { IfOk result (λ text. string_bytes text ≡ up_text up.now) }
+fn push_up(text: &mut String, up: &Option<HandUp>) -> Result<(), AllocError>
+    ensures { OnOk result (string_bytes text.new ≡ string_bytes text.old ++ up_text up.now) }
 {
     match up {
         Some(up) => {
             let rule_id = up.rule_id;
-            let packet = bytes_text(alloc, up.packet.as_slice())?;
-            format!(in alloc; " up {rule_id} {packet}")
+            write!(text, " up {rule_id} ")?;
+            push_bytes(text, up.packet.as_slice())
         }
-        None => Ok(String::new(alloc)),
+        None => Ok(()),
     }
 }
 
-/// What a frame that was delivered meant, what it handed up, and the session that it ended.
+/// Writes what a frame that was delivered meant, what it handed up, and the session that it ended.
 #[tactic(auto, unfolding(crate::specs::Lines::taken_text))]
-fn taken_text(alloc: Global, taken: &Taken) -> Result<String, AllocError>
+fn push_taken(text: &mut String, taken: &Taken) -> Result<(), AllocError>
     requires { IsNote taken.now.note }
-    ensures { IfOk result (λ text. string_bytes text ≡ taken_text taken.now) }
+    ensures { OnOk result (string_bytes text.new ≡ string_bytes text.old ++ taken_text taken.now) }
 {
-    let note = note_text(alloc, taken.note)?;
-    let up = up_text(alloc, &taken.up)?;
-    let report = report_text(alloc, taken.report)?;
-    format!(in alloc; "{note}{up}{report}")
+    push_note(text, taken.note)?;
+    push_up(text, &taken.up)?;
+    push_report(text, taken.report)
 }
 
-/// What an end made of an edition that was offered.
+/// Writes what an end made of an edition that was offered.
 #[tactic(auto, unfolding(crate::specs::Lines::offered_text))]
-fn offered_text(alloc: Global, answer: Offered) -> Result<String, AllocError>
-    ensures { IfOk result (λ text. string_bytes text ≡ offered_text answer) }
+fn push_offered(text: &mut String, answer: Offered) -> Result<(), AllocError>
+    ensures { OnOk result (string_bytes text.new ≡ string_bytes text.old ++ offered_text answer) }
 {
     match answer {
-        Offered::Adopted => String::from_str(alloc, "adopted"),
-        Offered::Older => String::from_str(alloc, "older"),
-        Offered::Diverged(id) => format!(in alloc; "diverged {id}"),
+        Offered::Adopted => text.push_str("adopted"),
+        Offered::Older => text.push_str("older"),
+        Offered::Diverged(id) => write!(text, "diverged {id}"),
     }
 }
 
-/// The outcome of an event.
+/// Writes the outcome of an event.
 #[tactic(auto, unfolding(crate::specs::Lines::said_text))]
-pub(crate) fn said_text(alloc: Global, line: &Line) -> Result<String, AllocError>
+pub(crate) fn push_said(text: &mut String, line: &Line) -> Result<(), AllocError>
     requires { IsSaid line.now }
-    ensures { IfOk result (λ text. string_bytes text ≡ said_text line.now) }
+    ensures { OnOk result (string_bytes text.new ≡ string_bytes text.old ++ said_text line.now) }
 {
     match line {
-        Line::Hand(accepted) => accepted_text(alloc, *accepted),
-        Line::HandRefused(fault) => String::from_str(alloc, refusal_text(*fault)),
-        Line::Slot(emission) => slot_text(alloc, emission),
-        Line::Deliver(taken) => taken_text(alloc, taken),
-        Line::Tick(device, gateway) => tick_text(alloc, *device, *gateway),
-        Line::Abort(report) => abort_text(alloc, *report),
-        Line::Published(number) => format!(in alloc; "ok {number}"),
-        Line::Refused(finding) => finding_text(alloc, *finding),
-        Line::Offer(answer) => offered_text(alloc, *answer),
-        Line::Allow(allowed) => String::from_str(alloc, allowed_text(*allowed)),
-        Line::NoFrame => String::from_str(alloc, "refused no-frame"),
-        Line::NoEdition => String::from_str(alloc, "refused no-edition"),
+        Line::Hand(accepted) => push_accepted(text, *accepted),
+        Line::HandRefused(fault) => text.push_str(refusal_text(*fault)),
+        Line::Slot(emission) => push_slot(text, emission),
+        Line::Deliver(taken) => push_taken(text, taken),
+        Line::Tick(device, gateway) => push_tick(text, *device, *gateway),
+        Line::Abort(report) => push_abort(text, *report),
+        Line::Published(number) => write!(text, "ok {number}"),
+        Line::Refused(finding) => push_finding(text, *finding),
+        Line::Offer(answer) => push_offered(text, *answer),
+        Line::Allow(allowed) => text.push_str(allowed_text(*allowed)),
+        Line::NoFrame => text.push_str("refused no-frame"),
+        Line::NoEdition => text.push_str("refused no-edition"),
     }
 }

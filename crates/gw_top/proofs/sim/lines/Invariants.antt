@@ -1,4 +1,4 @@
-use Rattle.std.proofs.Common.{◌≡◌, ◌+◌, ◌++◌, drop}
+use Rattle.std.proofs.Common.{◌≡◌, ◌+◌, ◌++◌, drop, string_bytes}
 use Rattle.two_ends.specs.World.{beginning}
 use Rattle.gw_top.specs.Run.{outcomes_from, lines_from}
 use Rattle.gw_top.proofs.sim.lines.Given as goal
@@ -7,5 +7,5 @@ use Rattle.gw_top.proofs.sim.lines.Given as goal
 abbrev pub invariant-loop-index : goal.invariant-loop-index
 invariant-loop-index l =
     let left = drop l.index l.events in
-    l.text.items ++ lines_from (l.index + 1) left (outcomes_from l.world left)
+    string_bytes l.text ++ lines_from (l.index + 1) left (outcomes_from l.world left)
     ≡ lines_from 1 l.events (outcomes_from (beginning l.fn.params) l.events)

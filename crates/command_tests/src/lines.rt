@@ -1,17 +1,18 @@
 //! Lines of events that come once sessions stand, which no script makes yet.
-use super::*;
+
 use event_data::{Line, Taken, Target, WorldEvent};
-use schc_ids::{FailCause, Note, Report, ReportKind, Role};
+use schc_ids::{Direction, FailCause, Note, Report, ReportKind, Role};
 use std::test::Fail;
+use transcripts::line_text;
+
+fn report(session: u64, kind: ReportKind) -> Option<Report> {
+    Some(Report { session, kind })
+}
 
 #[test]
 fn a_tick_at_both_ends(rt: HostRuntime) -> Result<(), Fail> {
     let event = WorldEvent::Tick(Target::Both);
-    let sent = Report {
-        session: 2,
-        kind: ReportKind::Sent,
-    };
-    let line = Line::Tick(None, Some(sent));
+    let line = Line::Tick(None, report(2, ReportKind::Sent));
     let text = line_text(rt.alloc(), 7, &event, &line, 9)?;
     assert_eq!(rt;
         text.as_slice(),
@@ -23,11 +24,7 @@ fn a_tick_at_both_ends(rt: HostRuntime) -> Result<(), Fail> {
 #[test]
 fn a_session_that_is_given_up(rt: HostRuntime) -> Result<(), Fail> {
     let event = WorldEvent::Abort(Role::Gateway);
-    let aborted = Report {
-        session: 1,
-        kind: ReportKind::Failed(FailCause::Aborted),
-    };
-    let line = Line::Abort(Some(aborted));
+    let line = Line::Abort(report(1, ReportKind::Failed(FailCause::Aborted)));
     let text = line_text(rt.alloc(), 7, &event, &line, 1)?;
     assert_eq!(rt;
         text.as_slice(),
@@ -38,14 +35,10 @@ fn a_session_that_is_given_up(rt: HostRuntime) -> Result<(), Fail> {
 
 #[test]
 fn an_answer_that_ends_a_session(rt: HostRuntime) -> Result<(), Fail> {
-    let event = WorldEvent::Deliver(schc_ids::Direction::Down, 1);
-    let delivered = Report {
-        session: 2,
-        kind: ReportKind::Delivered,
-    };
+    let event = WorldEvent::Deliver(Direction::Down, 1);
     let line = Line::Deliver(Taken {
         up: None,
-        report: Some(delivered),
+        report: report(2, ReportKind::Delivered),
         note: Note::Acked,
     });
     let text = line_text(rt.alloc(), 7, &event, &line, 3)?;
