@@ -1,3 +1,5 @@
+//! The two ends of a link, the directions between them, and what an end is made with.
+
 ghost use Rattle.std.specs.Prelude.{◌≡◌};
 ghost use Rattle.schc_ids.specs.Ends.{other_role, sent_direction, covers, share_direction};
 ghost use Rattle.schc_ids.specs.Params.{IsParams, default_params};
@@ -7,7 +9,9 @@ use crate::limits::MAX_MTU;
 /// One of the two ends of the link.
 #[derive(Clone, Copy, Debug, PartialEq, Eq)]
 pub enum Role {
+    /// The device on the low-power link.
     Device,
+    /// The network's side of that link.
     Gateway,
 }
 
@@ -33,18 +37,23 @@ impl Role {
     }
 }
 
-/// The direction of a packet: up is from the device to the gateway.
+/// The direction of a packet (RFC 8724 section 7.1).
 #[derive(Clone, Copy, Debug, PartialEq, Eq)]
 pub enum Direction {
+    /// From the device to the gateway.
     Up,
+    /// From the gateway to the device.
     Down,
 }
 
 /// The direction indicator (DI) of a rule's entry, RFC 8724 section 7.1.
 #[derive(Clone, Copy, Debug, PartialEq, Eq)]
 pub enum DirInd {
+    /// Packets from the device to the gateway.
     Up,
+    /// Packets from the gateway to the device.
     Down,
+    /// Packets of both directions (Bi in the standard).
     Both,
 }
 
@@ -72,7 +81,9 @@ pub fn share_direction(a: DirInd, b: DirInd) -> bool
 /// DevIID and AppIID restore (RFC 8724 section 7.4.7).
 #[derive(Clone, Copy, Debug, PartialEq, Eq)]
 pub struct Iids {
+    /// The device's, the last 64 bits of its address.
     pub dev: u64,
+    /// The application's, the last 64 bits of its address.
     pub app: u64,
 }
 
@@ -101,13 +112,16 @@ pub struct TimerTicks {
 /// What an end is made with.
 #[derive(Clone, Copy, Debug, PartialEq, Eq)]
 pub struct EndParams {
+    /// What DevIID and AppIID restore.
     pub iids: Iids,
     /// The most bytes that a frame has, 15 to 242.
     pub mtu: u16,
     /// Whether the fragments that this end sends are answered (ACK-on-Error and ACK-Always), or
     /// not (No-ACK).
     pub acked: bool,
+    /// Where the last tile goes in ACK-on-Error.
     pub last: LastTile,
+    /// How long each timer runs.
     pub ticks: TimerTicks,
 }
 

@@ -17,6 +17,7 @@ pub enum FragMode {
 /// How fragments are written (RFC 8724 section 8.2.4, RFC 9011 section 5.6). There is no DTag.
 #[derive(Clone, Copy, Debug, PartialEq, Eq)]
 pub struct FragParams {
+    /// The mode that they belong to.
     pub mode: FragMode,
     /// M, the bits of the window number W.
     pub w_bits: u8,

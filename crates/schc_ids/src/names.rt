@@ -1,3 +1,5 @@
+//! The fields of a packet's headers: their names, widths, layers and order.
+
 ghost use Rattle.std.specs.Prelude.{◌≡◌, ◌↔◌, IsTrue};
 ghost use Rattle.schc_ids.specs.Names.{
   width_of,
@@ -11,45 +13,72 @@ ghost use Rattle.schc_ids.specs.Names.{
 /// The layers whose headers are compressed.
 #[derive(Clone, Copy, Debug, PartialEq, Eq)]
 pub enum Layer {
+    /// IPv6 (RFC 8200).
     Ip,
+    /// UDP (RFC 768).
     Udp,
+    /// CoAP (RFC 7252).
     Coap,
 }
 
 /// The headers that a rule describes, from IPv6 on.
 #[derive(Clone, Copy, Debug, PartialEq, Eq)]
 pub enum Stack {
+    /// IPv6 alone; all after it is payload.
     Ip,
+    /// IPv6 and UDP.
     IpUdp,
+    /// IPv6, UDP and CoAP.
     IpUdpCoap,
 }
 
 /// The name of a header field (field identifier of RFC 8724 section 7.1), in packet order.
 ///
 /// Addresses and ports are named after the device and the application, and not after source and
-/// destination (RFC 8724 section 10.7). `CoapOption` holds the option's number.
+/// destination (RFC 8724 sections 10.7 and 10.9).
 #[derive(Clone, Copy, Debug, PartialEq, Eq)]
 pub enum FieldName {
+    /// Version, 4 bits (RFC 8200 section 3).
     IpVersion,
+    /// Traffic class, 8 bits (RFC 8200 section 7).
     IpTrafficClass,
+    /// Flow label, 20 bits (RFC 8200 section 6).
     IpFlowLabel,
+    /// The bytes after the IPv6 header, 16 bits (RFC 8200 section 3).
     IpPayloadLength,
+    /// What follows the IPv6 header, 8 bits: 17 for UDP (RFC 8200 section 3).
     IpNextHeader,
+    /// Hop limit, 8 bits (RFC 8200 section 3).
     IpHopLimit,
+    /// The first 64 bits of the device's address (RFC 8724 section 10.7.1).
     IpDevPrefix,
+    /// The last 64 bits of the device's address (RFC 8724 section 10.7.2).
     IpDevIid,
+    /// The first 64 bits of the application's address (RFC 8724 section 10.7.1).
     IpAppPrefix,
+    /// The last 64 bits of the application's address (RFC 8724 section 10.7.2).
     IpAppIid,
+    /// The device's port, 16 bits (RFC 8724 section 10.9).
     UdpDevPort,
+    /// The application's port, 16 bits (RFC 8724 section 10.9).
     UdpAppPort,
+    /// The bytes of the UDP header and what follows it, 16 bits (RFC 768).
     UdpLength,
+    /// Checksum, 16 bits (RFC 768, RFC 8200 section 8.1).
     UdpChecksum,
+    /// Version, 2 bits (RFC 7252 section 3).
     CoapVersion,
+    /// Type, 2 bits (RFC 7252 section 3).
     CoapType,
+    /// The bytes of the token, 4 bits (RFC 7252 section 3).
     CoapTkl,
+    /// Code, 8 bits (RFC 7252 section 3).
     CoapCode,
+    /// Message ID, 16 bits (RFC 7252 section 3).
     CoapMid,
+    /// Token, 0 to 8 bytes (RFC 7252 section 3).
     CoapToken,
+    /// The value of the option of this number (RFC 7252 section 3.1).
     CoapOption(u16),
 }
 
@@ -57,7 +86,9 @@ pub enum FieldName {
 /// position 1.
 #[derive(Clone, Copy, Debug, PartialEq, Eq)]
 pub struct FieldAt {
+    /// The field's name.
     pub name: FieldName,
+    /// Which of the fields of that name, from 1.
     pub position: u16,
 }
 

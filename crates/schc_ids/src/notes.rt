@@ -22,13 +22,16 @@ pub enum ReportKind {
     Delivered,
     /// Everything was sent, and in No-ACK nothing more is known.
     Sent,
+    /// It failed.
     Failed(FailCause),
 }
 
 /// The end of a session, told at the end that sends; its sessions are counted from 1.
 #[derive(Clone, Copy, Debug, PartialEq, Eq)]
 pub struct Report {
+    /// Which session of the end that sends, from 1.
     pub session: u64,
+    /// How it ended.
     pub kind: ReportKind,
 }
 
