@@ -1,13 +1,14 @@
 -- Previews and checks.
-use Rattle.std.specs.Prelude.{ℕ, ◌≡◌, ◌↔◌, ◌==◌, Bool, true, false, if◌then◌else◌, List, ◌++◌, Option, Some, None}
-use Rattle.std.proofs.Common.{refl, subst}
-use Rattle.std.proofs.lemmas.Bool.{eqb-true}
+use Rattle.std.specs.Prelude.{ℕ, ◌≡◌, ◌↔◌, ◌+◌, ◌==◌, ◌≤◌, Bool, true, false, if◌then◌else◌, List, ◌++◌, length, Option, Some, None}
+use Rattle.std.proofs.Common.{arith, refl, subst}
+use Rattle.std.proofs.lemmas.Bool.{eqb-true, leb-true}
+use Rattle.std.proofs.lemmas.List.{length-append}
 use Rattle.schc_ids.specs.declared.notes.Note.{Note}
 use Rattle.schc_ids.specs.declared.notes.Note.TheVariants as note
 use Rattle.frag_wire.specs.declared.message.Message.TheVariants as form
 use Rattle.rcs.specs.Division.{rcs_of}
-use Rattle.reassembly.specs.Joining.{has_room, passes}
-use Rattle.aa_receiver.specs.Laws.{PreviewJoins, PreviewPasses}
+use Rattle.reassembly.specs.Joining.{reassembly_bits, has_room, passes}
+use Rattle.aa_receiver.specs.Laws.{PreviewJoins, PreviewPasses, PreviewFits}
 use Rattle.aa_receiver.specs.State.{AaReceiverData, Empty, Gathering, Finished}
 use Rattle.aa_receiver.specs.Steps.{open_window, entered, before, next_tile, regular_step, last_tile, finished_step, all1_step, ack_req_step, abort_step, other_step, taken, checked_part, all1_check, checked, passed, previewed}
 use Rattle.aa_receiver.specs.declared.states.TileAnswer.{TileAnswer}
@@ -127,3 +128,37 @@ preview_passes (form.AckReq w) part bits receiver e = absurd (none-some bits e)
 preview_passes form.SenderAbort part bits receiver e = absurd (none-some bits e)
 preview_passes (form.Ack w c bitmap) part bits receiver e = absurd (none-some bits e)
 preview_passes form.ReceiverAbort part bits receiver e = absurd (none-some bits e)
+
+-- there is room for what is checked
+room-fits : (bits part : List Bool) → has_room bits part ≡ true → length (bits ++ part) ≤ reassembly_bits
+unfolding has_room
+room-fits bits part e =
+    let fits = leb-true (length bits + length part) reassembly_bits e in
+    omega (arith, length-append bits part, fits)
+
+part-fits : (bits part all : List Bool) (room : Bool) → has_room bits part ≡ room → (if room then Some (bits ++ part) else None) ≡ Some all → length all ≤ reassembly_bits
+part-fits bits part all true e found =
+    let same : bits ++ part ≡ all = cc found in
+    subst (λ (list : List Bool). length list ≤ reassembly_bits) same (room-fits bits part e)
+part-fits bits part all false e found = absurd (none-some all found)
+
+window-fits : (bits part all : List Bool) (mine : Bool) → (if mine then checked_part bits part else None) ≡ Some all → length all ≤ reassembly_bits
+unfolding checked_part
+window-fits bits part all true found = part-fits bits part all (has_room bits part) refl found
+window-fits bits part all false found = absurd (none-some all found)
+
+check-fits : (w : ℕ) (part all : List Bool) (receiver : AaReceiverData) → all1_check w part receiver ≡ Some all → length all ≤ reassembly_bits
+unfolding all1_check
+check-fits w part all (Empty abort) found = absurd (none-some all found)
+check-fits w part all (Gathering bits count answer) found = window-fits bits part all (w == open_window count) found
+check-fits w part all (Finished last answer) found = absurd (none-some all found)
+
+pub preview_fits : PreviewFits
+unfolding previewed
+preview_fits (form.Regular w fcn from) part bits receiver e = absurd (none-some bits e)
+preview_fits (form.All1 w rcs from) part bits receiver e =
+    check-fits w part bits (entered w receiver) (passed-is rcs (all1_check w part (entered w receiver)) bits e).0
+preview_fits (form.AckReq w) part bits receiver e = absurd (none-some bits e)
+preview_fits form.SenderAbort part bits receiver e = absurd (none-some bits e)
+preview_fits (form.Ack w c bitmap) part bits receiver e = absurd (none-some bits e)
+preview_fits form.ReceiverAbort part bits receiver e = absurd (none-some bits e)

@@ -1,9 +1,10 @@
 -- What holds of every receiver.
-use Rattle.std.specs.Prelude.{◌≡◌, ◌↔◌, Bool, List, Some}
+use Rattle.std.specs.Prelude.{◌≡◌, ◌↔◌, ◌≤◌, Bool, List, length, Some}
 use Rattle.schc_ids.specs.declared.notes.Note.TheVariants as note
 use Rattle.frag_wire.specs.declared.message.Message.{Message}
 use Rattle.frag_wire.specs.declared.message.Message.TheVariants as form
 use Rattle.rcs.specs.Division.{rcs_of}
+use Rattle.reassembly.specs.Joining.{reassembly_bits}
 use Rattle.aa_receiver.specs.State.{AaReceiverData}
 use Rattle.aa_receiver.specs.Steps.{taken, checked, previewed}
 
@@ -26,3 +27,9 @@ abbrev pub PreviewPasses : Type 0
 PreviewPasses =
     (message : Message) (part bits : List Bool) (receiver : AaReceiverData) → previewed message part receiver ≡ Some bits →
     (checked message part receiver ≡ Some bits) × HasCheck message bits
+
+-- and there is room for them
+abbrev pub PreviewFits : Type 0
+PreviewFits =
+    (message : Message) (part bits : List Bool) (receiver : AaReceiverData) → previewed message part receiver ≡ Some bits →
+    length bits ≤ reassembly_bits

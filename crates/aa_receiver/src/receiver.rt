@@ -2,7 +2,8 @@
 
 ghost use Rattle.std.specs.Prelude.{◌≡◌, ◌≤◌, length, None, option_map, IfOk, IfSome, OnOk, OnErr, IsSome};
 ghost use Rattle.schc_ids.specs.Fragments.{params_of};
-ghost use Rattle.aa_receiver.specs.Fragments.{IsFragment, payload_of};
+ghost use Rattle.reassembly.specs.Joining.{reassembly_bits};
+ghost use Rattle.aa_receiver.specs.Fragments.{IsFragment, MayJoin, payload_of};
 ghost use Rattle.aa_receiver.specs.State.{IsAaReceiver, empty_receiver, receiver_phase, received, StandsIn};
 ghost use Rattle.aa_receiver.specs.Steps.{taken, previewed, idled, lapsed, due_answer, due_bytes, answered};
 
@@ -78,6 +79,8 @@ impl AaReceiver {
         requires spelt { IsFragment message.now bytes.now }
         ensures bits { IfOk result (λ bits. bits ≡ previewed message.now (payload_of message.now bytes.now) self.now) }
         ensures memory { OnErr result (IsSome (previewed message.now (payload_of message.now bytes.now) self.now)) }
+        ensures kind { OnErr result (MayJoin message.now) }
+        ensures room { IfOk result (λ bits. IfSome bits (λ bits. length bits ≤ reassembly_bits)) }
     {
         match message {
             Message::All1 { w, rcs, from } => {

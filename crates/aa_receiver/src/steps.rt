@@ -1,6 +1,6 @@
 //! What a receiver does with each message, and what it answers.
 
-ghost use Rattle.std.specs.Prelude.{ℕ, ◌≡◌, ◌+◌, ◌*◌, ◌%◌, ◌^◌, ◌==◌, ◌<◌, ◌≤◌, Bool, true, false, List, [], length, Some, IfOk, OnErr, IsSome};
+ghost use Rattle.std.specs.Prelude.{ℕ, ◌≡◌, ◌+◌, ◌*◌, ◌%◌, ◌^◌, ◌==◌, ◌<◌, ◌≤◌, Bool, true, false, List, [], length, Some, IfOk, IfSome, OnErr, IsSome};
 ghost use Rattle.reassembly.specs.Joining.{reassembly_bits, has_room, passes};
 ghost use Rattle.aa_receiver.specs.Fragments.{IsFragment, payload_of, bits_from};
 ghost use Rattle.aa_receiver.specs.State.{received, IsDue, StandsIn};
@@ -56,6 +56,7 @@ pub(crate) fn preview_all1(
     requires payload { from ≤ 8 * length bytes.now }
     ensures bits { IfOk result (λ bits. bits ≡ passed rcs (all1_check w (bits_from from bytes.now) (received kept.now state))) }
     ensures memory { OnErr result (IsSome (passed rcs (all1_check w (bits_from from bytes.now) (received kept.now state)))) }
+    ensures room { IfOk result (λ bits. IfSome bits (λ bits. length bits ≤ reassembly_bits)) }
 {
     match state {
         State::Gathering { count, .. } => {
@@ -71,7 +72,7 @@ pub(crate) fn preview_all1(
 
 /// The bits that are kept and those of the last tile, of the open window, where there is room and
 /// they pass the check.
-#[tactic(auto, unfolding(crate::specs::Steps::passed, crate::specs::Steps::checked_part, reassembly::specs::Joining::passes))]
+#[tactic(auto, using(crate::proofs::StepLemmas::room_more), unfolding(crate::specs::Steps::passed, crate::specs::Steps::checked_part, reassembly::specs::Joining::passes))]
 fn preview_last(
     alloc: Global,
     kept: &Reassembly,
@@ -82,6 +83,7 @@ fn preview_last(
     requires payload { from ≤ 8 * length bytes.now }
     ensures bits { IfOk result (λ bits. bits ≡ passed rcs (checked_part kept.now (bits_from from bytes.now))) }
     ensures memory { OnErr result (IsSome (passed rcs (checked_part kept.now (bits_from from bytes.now)))) }
+    ensures room { IfOk result (λ bits. IfSome bits (λ bits. length bits ≤ reassembly_bits)) }
 {
     if !kept.has_room(bytes, from) {
         return Ok(None);

@@ -29,10 +29,10 @@ unfolding rcs_of
 rcs_of-below bits = omega (arith, check_of-bytes (bytes_of (padded bits)) (AreBytes-bytes_of (padded bits)))
 
 -- what is due can be written, in a frame that isn't too long
-abbrev Fits : AaSenderData → Message × List Bool → Type 0
+abbrev pub Fits : AaSenderData → Message × List Bool → Type 0
 Fits sender due = CanSpell sender.params side.Fragments due.0 due.1 × (length (bytes_due sender.params due) ≤ sender.mtu)
 
-fragment-fits : (sender : AaSenderData) (i : ℕ) (is_last : Bool) → i == last_index sender ≡ is_last → IsAaSender sender → i ≤ last_index sender → Fits sender (fragment_of sender i is_last)
+pub fragment-fits : (sender : AaSenderData) (i : ℕ) (is_last : Bool) → i == last_index sender ≡ is_last → IsAaSender sender → i ≤ last_index sender → Fits sender (fragment_of sender i is_last)
 unfolding fragment_of
 fragment-fits sender i true e is h =
     let last : i ≡ last_index sender = eqb-true i (last_index sender) e in

@@ -1,4 +1,5 @@
 pub mod ArrivalLemmas
 pub mod KeptLemmas
 pub mod SenderLemmas
+pub mod SessionLemmas
 pub mod TileLemmas

@@ -1,5 +1,5 @@
 -- What holds of every sender.
-use Rattle.std.specs.Prelude.{ℕ, ◌≡◌, ◌<◌, ◌≤◌, true, false, List, Bool, ◌++◌, length, take, IfSome}
+use Rattle.std.specs.Prelude.{ℕ, ◌≡◌, ◌↔◌, ◌⊎◌, ◌<◌, ◌≤◌, true, false, List, Bool, ◌++◌, length, take, Some, None, IfSome}
 use Rattle.schc_bits.specs.Bits.{octets}
 use Rattle.schc_ids.specs.Fragments.{params_of}
 use Rattle.schc_ids.specs.Limits.{IsMtu, min_cut_bits, max_session_bits}
@@ -7,13 +7,16 @@ use Rattle.schc_ids.specs.declared.ends.LastTile.{LastTile}
 use Rattle.schc_ids.specs.declared.fragments.FragMode.TheVariants as mode
 use Rattle.schc_ids.specs.declared.fragments.FragParams.{FragParams}
 use Rattle.schc_ids.specs.declared.fragments.Side.TheVariants as side
+use Rattle.schc_ids.specs.declared.phases.SenderPhase.TheVariants as phase
 use Rattle.frag_wire.specs.Layouts.{payload_in}
-use Rattle.frag_wire.specs.Spells.{CanSpell}
+use Rattle.frag_wire.specs.Spells.{Spells, CanSpell}
 use Rattle.frag_wire.specs.declared.message.Message.{Message}
+use Rattle.frag_wire.specs.declared.message.Message.TheVariants as form
+use Rattle.rcs.specs.Division.{rcs_of}
 use Rattle.tiles_bitmap.specs.Laws.{joined}
 use Rattle.tiles_bitmap.specs.Padding.{padded_packet}
-use Rattle.aa_sender.specs.State.{AaSenderData, IsAaSender, begun, packet_tiles, tile_at, last_index}
-use Rattle.aa_sender.specs.Steps.{fragment_of, fragment_bytes, bytes_due, due_message, sent, heard, retried, aborted}
+use Rattle.aa_sender.specs.State.{AaSenderData, IsAaSender, begun, sender_phase, packet_tiles, tile_at, last_index}
+use Rattle.aa_sender.specs.Steps.{fragment_of, fragment_bytes, bytes_due, due_message, due_bytes, sent, heard, retried, aborted}
 
 -- a session that begins has a sender
 abbrev pub BeginsOne : Type 0
@@ -32,11 +35,41 @@ pub record IsKept (sender : AaSenderData) : Type 0 where
 abbrev pub StaysOne : Type 0
 StaysOne = (sender : AaSenderData) → IsAaSender sender → IsKept sender
 
+-- a sender of the same SCHC packet, in frames of the same size
+pub record IsSameSession (before : AaSenderData) (after : AaSenderData) : Type 0 where
+  pub params : after.params ≡ before.params
+  pub mtu : after.mtu ≡ before.mtu
+  pub bits : after.bits ≡ before.bits
+
+-- each step changes nothing but where the sender stands
+pub record KeepsIts (sender : AaSenderData) : Type 0 where
+  pub sends : IsSameSession sender (sent sender)
+  pub hears : (message : Message) → IsSameSession sender (heard message sender).0
+  pub retries : IsSameSession sender (retried sender).0
+  pub aborts : IsSameSession sender (aborted sender).0
+
+abbrev pub KeepsSession : Type 0
+KeepsSession = (sender : AaSenderData) → KeepsIts sender
+
+-- nothing is due exactly while the sender waits and when its session has ended
+abbrev pub NoneDue : Type 0
+NoneDue =
+    (sender : AaSenderData) →
+    (due_bytes sender ≡ None) ↔ ((sender_phase sender ≡ phase.Waiting) ⊎ (sender_phase sender ≡ phase.Quiet))
+
 -- what is due can be written, and fits in a frame
 abbrev pub DueFits : Type 0
 DueFits =
     (sender : AaSenderData) → IsAaSender sender →
     IfSome (due_message sender) (λ due. CanSpell sender.params side.Fragments due.0 due.1 × (length (bytes_due sender.params due) ≤ sender.mtu))
+
+-- an All-1 that is due carries the check of the padded packet
+abbrev pub All1Checks : Type 0
+All1Checks =
+    (sender : AaSenderData) (bytes : List ℕ) (w rcs from : ℕ) (payload : List Bool) →
+    IsAaSender sender → due_bytes sender ≡ Some bytes →
+    Spells sender.params side.Fragments (form.All1 w rcs from) payload bytes →
+    rcs ≡ rcs_of (padded_packet sender.params sender.mtu sender.bits)
 
 -- the payload of a Regular, as it is read, is its tile
 abbrev pub TileArrives : Type 0

@@ -1,6 +1,6 @@
 //! What holds of every sender.
 
-ghost use Rattle.aa_sender.specs.Laws.{BeginsOne, StaysOne, DueFits, TileArrives, LastArrives};
+ghost use Rattle.aa_sender.specs.Laws.{BeginsOne, StaysOne, KeepsSession, NoneDue, DueFits, All1Checks, TileArrives, LastArrives};
 
 /// A session that begins has a sender, with all that holds of one.
 pub fn begins_one()
@@ -12,9 +12,24 @@ pub fn stays_one()
     ensures { StaysOne }
 {}
 
+/// Each step of a sender keeps its parameters and its SCHC packet.
+pub fn keeps_session()
+    ensures { KeepsSession }
+{}
+
+/// No message is due exactly while the sender waits and when the session has ended.
+pub fn none_due()
+    ensures { NoneDue }
+{}
+
 /// What is due can be written, and fits in a frame.
 pub fn due_fits()
     ensures { DueFits }
+{}
+
+/// What is due and is read as an All-1 carries the check of the packet with its padding.
+pub fn all1_checks()
+    ensures { All1Checks }
 {}
 
 /// A Regular arrives with its tile and nothing behind it.

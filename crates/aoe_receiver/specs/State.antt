@@ -3,6 +3,8 @@ use Rattle.std.specs.Prelude.{ℕ, ◌+◌, ◌/◌, ◌%◌, ◌≡◌, ◌<◌
 use Rattle.std.specs.List.{AllByRecursion}
 use Rattle.schc_ids.specs.declared.phases.ReceiverPhase.{ReceiverPhase}
 use Rattle.schc_ids.specs.declared.phases.ReceiverPhase.TheVariants as phase
+use Rattle.frag_wire.specs.declared.message.Message.{Message}
+use Rattle.frag_wire.specs.declared.message.Message.TheVariants as form
 
 -- an All-1: its window, its RCS, and its tile, which has no bits where the last tile came in a Regular
 pub record LastData : Type 0 where
@@ -64,3 +66,12 @@ parts_of_ten (suc count) bits = take 80 bits ∷ parts_of_ten count (drop 80 bit
 -- RFC 8724, section 8.4.3.1, and RFC 9011, section 5.6.2: the tiles of a Regular's payload, ten bytes each, the last may be shorter
 unfoldable pub payload_tiles : List Bool → List (List Bool)
 payload_tiles payload = parts_of_ten ((length payload + 79) / 80) payload
+
+-- the check is made at an All-1 and at an ACK REQ alone
+abbrev pub MayJoin : Message → Type 0
+MayJoin (form.Regular w fcn from) = ⊥
+MayJoin (form.All1 w rcs from) = Unit {0}
+MayJoin (form.Ack w c bitmap) = ⊥
+MayJoin (form.AckReq w) = Unit {0}
+MayJoin form.SenderAbort = ⊥
+MayJoin form.ReceiverAbort = ⊥

@@ -1,17 +1,18 @@
 //! The receiver.
 
-ghost use Rattle.std.specs.Prelude.{ℕ, ◌≡◌, ◌+◌, ◌/◌, ◌^◌, ◌<◌, ◌≤◌, Bool, List, [], length, IfOk, OnOk, OnErr, IfSome, IsSome};
+ghost use Rattle.std.specs.Prelude.{ℕ, ◌≡◌, ◌+◌, ◌*◌, ◌/◌, ◌^◌, ◌<◌, ◌≤◌, Bool, List, [], length, IfOk, OnOk, OnErr, IfSome, IsSome};
 ghost use Rattle.std.specs.Option.{option_map};
 ghost use Rattle.schc_bits.specs.Bits.{bits_value, octets};
 ghost use Rattle.schc_ids.specs.declared.fragments.FragMode.TheVariants.{AckOnError};
 ghost use Rattle.schc_ids.specs.declared.fragments.Side.TheVariants.{Fragments, Answers};
 ghost use Rattle.schc_ids.specs.Fragments.{params_of};
+ghost use Rattle.schc_ids.specs.Limits.{reassembly_bytes};
 ghost use Rattle.frag_wire.specs.Layouts.{payload_in, written};
 ghost use Rattle.frag_wire.specs.Spells.{Spells, CanSpell};
 ghost use Rattle.tiles_bitmap.specs.Numbers.{tile_index};
 ghost use Rattle.tiles_bitmap.specs.Places.{held_bits};
 ghost use Rattle.aoe_receiver.specs.Machine.{kept_data, IsOfFour};
-ghost use Rattle.aoe_receiver.specs.State.{IsAoeReceiver, empty_receiver, receiver_phase, payload_tiles};
+ghost use Rattle.aoe_receiver.specs.State.{IsAoeReceiver, MayJoin, empty_receiver, receiver_phase, payload_tiles};
 ghost use Rattle.aoe_receiver.specs.Steps.{begun, regular_step, all1_step, ack_req_step, abort_step, other_step, last_of, taken, all1_check, ack_req_check, if_passed, previewed, idled, lapsed, named_window, window_bits, gathering_answer, due_answer, due_bytes, answered};
 
 use crate::store::TileStore;
@@ -113,6 +114,8 @@ impl AoeReceiver {
         requires spelt { Spells (params_of AckOnError) Fragments message.now (payload_in message.now (octets bytes.now)) bytes.now }
         ensures bits { IfOk result (λ bits. bits ≡ previewed message.now (payload_in message.now (octets bytes.now)) self.now) }
         ensures memory { OnErr result (IsSome (previewed message.now (payload_in message.now (octets bytes.now)) self.now)) }
+        ensures kind { OnErr result (MayJoin message.now) }
+        ensures room { IfOk result (λ bits. IfSome bits (λ bits. length bits ≤ 8 * reassembly_bytes)) }
     {
         match message {
             Message::All1 { w, rcs, from } => {
@@ -170,13 +173,14 @@ impl AoeReceiver {
     /// now; none where none is due. After it none is due.
     ///
     /// # Errors
-    /// Want of memory; the answer is then still due.
+    /// Want of memory, where an answer is due; it is then still due.
     #[tactic(auto, unfolding(crate::specs::Steps::due_bytes))]
     pub fn answer(&mut self, alloc: Global) -> Result<Option<Octets>, AllocError>
         ensures given { IfOk result (λ bytes. option_map (λ b. b.items) bytes ≡ due_bytes self.old) }
         ensures room { IfOk result (λ bytes. IfSome bytes (λ b. length b.items ≤ 9)) }
         ensures after { OnOk result (self.new ≡ answered self.old) }
         ensures unchanged { OnErr result (self.new ≡ self.old) }
+        ensures memory { OnErr result (IsSome (due_answer self.old)) }
     {
         let bytes = match self.due_message() {
             Some(message) => Some(self.spell(alloc, &message)?),
@@ -317,6 +321,7 @@ impl AoeReceiver {
         requires most { length tile.now ≤ 10 }
         ensures bits { IfOk result (λ bits. bits ≡ if_passed (all1_check (last_of w rcs (octets tile.now)) (begun self.now))) }
         ensures memory { OnErr result (IsSome (if_passed (all1_check (last_of w rcs (octets tile.now)) (begun self.now)))) }
+        ensures room { IfOk result (λ bits. IfSome bits (λ bits. length bits ≤ 8 * reassembly_bytes)) }
     {
         match self.stage {
             Stage::Empty { .. } | Stage::Gathering { .. } => {
@@ -331,6 +336,7 @@ impl AoeReceiver {
     fn preview_ack_req(&self, alloc: Global) -> Result<Option<Bits>, AllocError>
         ensures bits { IfOk result (λ bits. bits ≡ if_passed (ack_req_check (begun self.now))) }
         ensures memory { OnErr result (IsSome (if_passed (ack_req_check (begun self.now)))) }
+        ensures room { IfOk result (λ bits. IfSome bits (λ bits. length bits ≤ 8 * reassembly_bytes)) }
     {
         match self.stage {
             Stage::Gathering {

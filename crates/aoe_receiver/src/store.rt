@@ -1,7 +1,8 @@
 //! The tiles that are held, in one buffer.
 
-ghost use Rattle.std.specs.Prelude.{ℕ, ◌≡◌, ◌+◌, ◌*◌, ◌^◌, ◌/◌, ◌==◌, ◌<◌, ◌≤◌, Bool, not, false, ◌&&◌, List, [], ◌∷◌, ◌++◌, length, take, get_or, Some, IfOk, OnErr, IsSome};
+ghost use Rattle.std.specs.Prelude.{ℕ, ◌≡◌, ◌+◌, ◌*◌, ◌^◌, ◌/◌, ◌==◌, ◌<◌, ◌≤◌, Bool, not, false, ◌&&◌, List, [], ◌∷◌, ◌++◌, length, take, get_or, Some, IfOk, IfSome, OnErr, IsSome};
 ghost use Rattle.schc_bits.specs.Bits.{bits_value, octets};
+ghost use Rattle.schc_ids.specs.Limits.{reassembly_bytes};
 ghost use Rattle.rcs.specs.Division.{rcs_of};
 ghost use Rattle.tiles_bitmap.specs.Places.{keep, held_bits, joined_tiles, all_true, no_gap, open_window, bitmap};
 ghost use Rattle.aoe_receiver.specs.State.{ArePlaces, IsLastTile, payload_tiles};
@@ -272,7 +273,9 @@ impl TileStore {
         requires most { length tile.now ≤ 10 }
         ensures bits { IfOk result (λ bits. bits ≡ if_passed (Some (record { tiles = self.now.tiles; last = last_of w rcs (octets tile.now) }))) }
         ensures memory { OnErr result (IsSome (if_passed (Some (record { tiles = self.now.tiles; last = last_of w rcs (octets tile.now) })))) }
+        ensures room { IfOk result (λ bits. IfSome bits (λ bits. length bits ≤ 8 * reassembly_bytes)) }
     {
+        self.stands();
         if self.passes(w, rcs, tile) {
             Ok(Some(self.joined(alloc, w, tile)?))
         } else {

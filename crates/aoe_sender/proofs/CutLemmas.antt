@@ -57,7 +57,7 @@ joined-take (suc c) mtu left (size ∷ next ∷ sizes) bits e (more, same, rest)
     ∙ ap (λ n. take n bits) (sym (times-more c))
 
 -- tiles from any one on
-joined-part : (k c mtu left : ℕ) (sizes : List ℕ) (bits : List Bool) → length bits ≡ left → AreTiles mode.AckOnError mtu left sizes → joined (take c (drop k (parts sizes bits))) ≡ take (80 * c) (drop (80 * k) bits)
+pub joined-part : (k c mtu left : ℕ) (sizes : List ℕ) (bits : List Bool) → length bits ≡ left → AreTiles mode.AckOnError mtu left sizes → joined (take c (drop k (parts sizes bits))) ≡ take (80 * c) (drop (80 * k) bits)
 unfolding most_in_last
 joined-part k c mtu left [] bits e are = absurd are
 joined-part zero c mtu left (size ∷ sizes) bits e are = joined-take c mtu left (size ∷ sizes) bits e are
@@ -71,7 +71,7 @@ joined-part (suc k) c mtu left (size ∷ next ∷ sizes) bits e (more, same, res
     ∙ ap (λ list. take (80 * c) list) (drop-drop (80 * k) 80 bits)
     ∙ ap (λ n. take (80 * c) (drop n bits)) (sym (times-more k))
 
-length-parts : (sizes : List ℕ) (bits : List Bool) → length (parts sizes bits) ≡ length sizes
+pub length-parts : (sizes : List ℕ) (bits : List Bool) → length (parts sizes bits) ≡ length sizes
 length-parts [] bits = refl
 length-parts (size ∷ sizes) bits = ap suc (length-parts sizes (drop size bits))
 

@@ -3,3 +3,4 @@ pub mod KeepsLemmas
 pub mod LawsLemmas
 pub mod MarksLemmas
 pub mod MessageLemmas
+pub mod SessionLemmas

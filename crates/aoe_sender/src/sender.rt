@@ -1,6 +1,6 @@
 //! The sender.
 
-ghost use Rattle.std.specs.Prelude.{ℕ, ◌≡◌, ◌+◌, ◌-◌, ◌*◌, ◌/◌, ◌^◌, ◌==◌, ◌<◌, ◌≤◌, nat_lt, [], length, take, drop, IfOk, IfErr, OnOk, OnErr, IfSome, option_map};
+ghost use Rattle.std.specs.Prelude.{ℕ, ◌≡◌, ◌+◌, ◌-◌, ◌*◌, ◌/◌, ◌^◌, ◌==◌, ◌<◌, ◌≤◌, nat_lt, [], length, take, drop, IfOk, IfErr, OnOk, OnErr, IfSome, IsSome, option_map};
 ghost use Rattle.schc_ids.specs.declared.fragments.FragMode.TheVariants.{AckOnError};
 ghost use Rattle.schc_ids.specs.Fragments.{params_of};
 ghost use Rattle.schc_ids.specs.Limits.{IsMtu, min_cut_bits, max_session_bits};
@@ -8,7 +8,7 @@ ghost use Rattle.frag_wire.specs.declared.message.Message.TheVariants.{Ack, Rece
 ghost use Rattle.frag_wire.specs.Layouts.{written};
 ghost use Rattle.schc_bits.specs.Bits.{number_bits};
 ghost use Rattle.aoe_sender.specs.Tiles.{in_regulars, regular_count, last_window, most_tiles};
-ghost use Rattle.aoe_sender.specs.Steps.{begun, regular, all1, all1_came, due_bytes, sent, moves, confirmed, asked_last, asked, heard, retried, aborted, sender_phase, IsAnswer, IsStateOf, IsAoeSender};
+ghost use Rattle.aoe_sender.specs.Steps.{begun, regular, all1, all1_came, due_message, due_bytes, sent, moves, confirmed, asked_last, asked, heard, retried, aborted, sender_phase, IsAnswer, IsStateOf, IsAoeSender};
 ghost use Rattle.aoe_sender.specs.State.{Sending};
 ghost use Rattle.schc_ids.specs.declared.notes.Heard.TheVariants.{Counted};
 
@@ -120,13 +120,14 @@ impl AoeSender {
     /// where none is, after which the sender waits; in Closing a Sender-Abort.
     ///
     /// # Errors
-    /// Want of memory; the sender is then as before.
+    /// Want of memory, where a message is due; the sender is then as before.
     #[tactic(auto, unfolding(crate::specs::Steps::due_bytes, crate::specs::Steps::due_message, crate::specs::Steps::due_in, crate::specs::Steps::sent, crate::specs::Steps::sent_in, crate::specs::Steps::run_after))]
     pub fn next(&mut self, alloc: Global) -> Result<Option<Octets>, AllocError>
         ensures given { IfOk result (λ given. option_map (λ bytes. bytes.items) given ≡ due_bytes self.old) }
         ensures after { OnOk result (self.new ≡ sent self.old) }
         ensures room { IfOk result (λ given. IfSome given (λ bytes. length bytes.items ≤ self.old.mtu)) }
         ensures unchanged { OnErr result (self.new ≡ self.old) }
+        ensures memory { OnErr result (IsSome (due_message self.old)) }
         ensures sound { IsAoeSender self.new }
     {
         match self.stage {

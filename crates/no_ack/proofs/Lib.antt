@@ -1,3 +1,5 @@
+pub mod ArrivalLemmas
+pub mod KeptLemmas
 pub mod ReceiverLemmas
 pub mod SenderLemmas
 pub mod TileLemmas

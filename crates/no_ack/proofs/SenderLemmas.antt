@@ -20,7 +20,7 @@ use Rattle.tiles_bitmap.specs.Padding.{fill, last_of, padded_packet}
 use Rattle.no_ack.specs.SenderState.{NoAckSenderData, IsNoAckSender, StandsIn, packet_tiles, tile_at, last_index}
 use Rattle.no_ack.specs.declared.states.NoAckSenderState.{NoAckSenderState}
 use Rattle.tiles_bitmap.proofs.PieceLemmas.{is-piece, length-tiles, length-tile_ends, some-tile}
-use Rattle.no_ack.proofs.TileLemmas.{regular-fits, last-fits}
+use Rattle.no_ack.proofs.TileLemmas.{regular-fits, regular-whole, last-fits}
 
 -- how many tiles there are, and where they end
 pub record HasTiles (sender : NoAckSenderData) (ends : List ℕ) : Type 0 where
@@ -73,6 +73,16 @@ regular_is sender i is h =
     let inside : suc i < length (tile_sizes sender.params sender.mtu (length sender.bits)) = omega (arith, h, all) in
     subst (λ (p : FragParams). (8 ≤ length (get_or (tiles p sender.mtu sender.bits) i [])) × (length (get_or (tiles p sender.mtu sender.bits) i []) + 1 ≤ 8 * sender.mtu)) (sym is.row)
     (regular-fits sender.mtu sender.bits i is.in_range (omega (arith, is.least)) (subst (λ (p : FragParams). suc i < length (tile_sizes p sender.mtu (length sender.bits))) is.row inside))
+
+pub regular_whole : (sender : NoAckSenderData) (i : ℕ) → IsNoAckSender sender → i < last_index sender → (length (tile_at sender i) + 1) % 8 ≡ 0
+unfolding last_index
+regular_whole sender i is h =
+    let all : length (packet_tiles sender) ≡ length (tile_sizes sender.params sender.mtu (length sender.bits)) =
+    length-tiles sender.params sender.mtu sender.bits
+    in
+    let inside : suc i < length (tile_sizes sender.params sender.mtu (length sender.bits)) = omega (arith, h, all) in
+    subst (λ (p : FragParams). (length (get_or (tiles p sender.mtu sender.bits) i []) + 1) % 8 ≡ 0) (sym is.row)
+    (regular-whole sender.mtu sender.bits i is.in_range (omega (arith, is.least)) (subst (λ (p : FragParams). suc i < length (tile_sizes p sender.mtu (length sender.bits))) is.row inside))
 
 pub last_is : (sender : NoAckSenderData) → IsNoAckSender sender → 33 + length (tile_at sender (last_index sender)) ≤ 8 * sender.mtu
 unfolding last_index

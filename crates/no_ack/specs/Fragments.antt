@@ -7,6 +7,7 @@ use Rattle.schc_ids.specs.declared.fragments.Side.TheVariants as side
 use Rattle.frag_wire.specs.Layouts.{payload_in}
 use Rattle.frag_wire.specs.Spells.{Spells}
 use Rattle.frag_wire.specs.declared.message.Message.{Message}
+use Rattle.frag_wire.specs.declared.message.Message.TheVariants as form
 
 -- the payload of the message that these bytes are
 abbrev pub payload_of : Message → List ℕ → List Bool
@@ -19,3 +20,12 @@ IsFragment message bytes = Spells (params_of mode.NoAck) side.Fragments message 
 -- the bits of the bytes from this one on
 abbrev pub bits_from : ℕ → List ℕ → List Bool
 bits_from from bytes = drop from (octets bytes)
+
+-- the check is made at an All-1 alone
+abbrev pub MayJoin : Message → Type 0
+MayJoin (form.Regular w fcn from) = ⊥
+MayJoin (form.All1 w rcs from) = Unit {0}
+MayJoin (form.Ack w c bitmap) = ⊥
+MayJoin (form.AckReq w) = ⊥
+MayJoin form.SenderAbort = ⊥
+MayJoin form.ReceiverAbort = ⊥

@@ -1,8 +1,9 @@
 //! A receiver in the No-ACK mode.
 
-ghost use Rattle.std.specs.Prelude.{ℕ, ◌≡◌, ◌*◌, ◌≤◌, length, IsSome, IfOk, OnErr};
+ghost use Rattle.std.specs.Prelude.{ℕ, ◌≡◌, ◌*◌, ◌≤◌, length, IsSome, IfOk, IfSome, OnErr};
 ghost use Rattle.schc_ids.specs.Fragments.{params_of};
-ghost use Rattle.no_ack.specs.Fragments.{IsFragment, payload_of, bits_from};
+ghost use Rattle.reassembly.specs.Joining.{reassembly_bits};
+ghost use Rattle.no_ack.specs.Fragments.{IsFragment, MayJoin, payload_of, bits_from};
 ghost use Rattle.no_ack.specs.ReceiverState.{IsNoAckReceiver, empty_receiver, receiver_phase};
 ghost use Rattle.no_ack.specs.ReceiverSteps.{taken, tile_step, last_step, last_preview, given_up, previewed, idled, lapsed};
 
@@ -76,6 +77,8 @@ impl NoAckReceiver {
         requires read { IsFragment message.now bytes.now }
         ensures joined { IfOk result (λ joined. joined ≡ previewed message.now (payload_of message.now bytes.now) self.now) }
         ensures memory { OnErr result (IsSome (previewed message.now (payload_of message.now bytes.now) self.now)) }
+        ensures kind { OnErr result (MayJoin message.now) }
+        ensures room { IfOk result (λ joined. IfSome joined (λ bits. length bits ≤ reassembly_bits)) }
     {
         match message {
             Message::All1 { rcs, from, .. } => self.preview_last(alloc, bytes, *from, *rcs),
@@ -173,7 +176,7 @@ impl NoAckReceiver {
     }
 
     /// The bits that are joined, where an All-1 with this check completes them.
-    #[tactic(auto, unfolding(crate::specs::ReceiverSteps::last_preview, crate::specs::ReceiverSteps::completes_last, crate::specs::ReceiverSteps::assembled))]
+    #[tactic(auto, using(crate::proofs::ReceiverLemmas::room_joined), unfolding(crate::specs::ReceiverSteps::last_preview, crate::specs::ReceiverSteps::completes_last, crate::specs::ReceiverSteps::assembled))]
     fn preview_last(
         &self,
         alloc: Global,
@@ -184,6 +187,7 @@ impl NoAckReceiver {
         requires within { from ≤ 8 * length bytes.now }
         ensures memory { OnErr result (IsSome (last_preview self.now (bits_from from bytes.now) rcs)) }
         ensures joined { IfOk result (λ joined. joined ≡ last_preview self.now (bits_from from bytes.now) rcs) }
+        ensures room { IfOk result (λ joined. IfSome joined (λ bits. length bits ≤ reassembly_bits)) }
     {
         if !self.kept.has_room(bytes, from) {
             return Ok(None);

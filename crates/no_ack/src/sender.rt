@@ -1,13 +1,13 @@
 //! A sender in the No-ACK mode.
 
-ghost use Rattle.std.specs.Prelude.{ℕ, ◌≡◌, ◌+◌, ◌-◌, ◌*◌, ◌%◌, ◌<◌, ◌≤◌, ◌==◌, ◌++◌, true, false, [], ◌∷◌, length, get_or, option_map, IfOk, IfErr, IfSome, OnOk, OnErr};
+ghost use Rattle.std.specs.Prelude.{ℕ, ◌≡◌, ◌+◌, ◌-◌, ◌*◌, ◌%◌, ◌<◌, ◌≤◌, ◌==◌, ◌++◌, true, false, [], ◌∷◌, length, get_or, option_map, IfOk, IfErr, IfSome, OnOk, OnErr, IsSome};
 ghost use Rattle.schc_ids.specs.Fragments.{params_of};
 ghost use Rattle.schc_ids.specs.Limits.{IsMtu, min_cut_bits, max_session_bits};
 ghost use Rattle.frag_wire.specs.Layouts.{written};
 ghost use Rattle.rcs.specs.Division.{rcs_of};
 ghost use Rattle.tiles_bitmap.specs.Padding.{padded_packet};
 ghost use Rattle.no_ack.specs.SenderState.{IsNoAckSender, StandsIn, begun, sender_phase, phase_in, tile_at, last_index};
-ghost use Rattle.no_ack.specs.SenderSteps.{bytes_due, fragment_of, due_bytes, due_in, sent, sent_in, aborted};
+ghost use Rattle.no_ack.specs.SenderSteps.{bytes_due, fragment_of, due_message, due_bytes, due_in, sent, sent_in, aborted};
 
 use crate::states::NoAckSenderState;
 use frag_wire::{Message, write};
@@ -97,12 +97,13 @@ impl NoAckSender {
     /// message is.
     ///
     /// # Errors
-    /// Want of memory; the sender is then as before.
+    /// Want of memory, where a message is due; the sender is then as before.
     #[tactic(auto, unfolding(crate::specs::SenderSteps::due_message, crate::specs::SenderSteps::due_in, crate::specs::SenderSteps::sent, crate::specs::SenderSteps::sent_in))]
     pub fn next(&mut self, alloc: Global) -> Result<Option<Octets>, AllocError>
         ensures given { IfOk result (λ given. option_map (λ bytes. bytes.items) given ≡ due_bytes self.old) }
         ensures after { OnOk result (self.new ≡ sent self.old) }
         ensures unchanged { OnErr result (self.new ≡ self.old) }
+        ensures memory { OnErr result (IsSome (due_message self.old)) }
         ensures room { IfOk result (λ given. IfSome given (λ bytes. length bytes.items ≤ self.old.mtu)) }
     {
         match self.state {

@@ -1,4 +1,5 @@
 pub mod PieceLemmas
 pub mod PlacesLemmas
+pub mod RunLemmas
 pub mod TilesLemmas
 pub mod WindowsLemmas

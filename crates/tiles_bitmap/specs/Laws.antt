@@ -1,11 +1,12 @@
 -- What holds of the tiles of every SCHC packet.
-use Rattle.std.specs.Prelude.{ℕ, ◌≡◌, ◌+◌, ◌*◌, ◌/◌, ◌%◌, ◌<◌, ◌≤◌, Bool, List, [], ◌∷◌, ◌++◌, length}
+use Rattle.std.specs.Prelude.{ℕ, ◌≡◌, ◌⊎◌, suc, ◌+◌, ◌*◌, ◌/◌, ◌%◌, ◌<◌, ◌≤◌, Bool, List, [], ◌∷◌, ◌++◌, length}
 use Rattle.std.specs.List.{AllByRecursion}
 use Rattle.schc_ids.specs.declared.fragments.FragMode.{FragMode}
 use Rattle.schc_ids.specs.declared.fragments.FragMode.TheVariants as mode
 use Rattle.schc_ids.specs.declared.fragments.FragParams.{FragParams}
 use Rattle.schc_ids.specs.Limits.{IsMtu}
 use Rattle.tiles_bitmap.specs.Numbers.{HasNumber, tile_number, tile_index}
+use Rattle.tiles_bitmap.specs.Places.{numbers_from, run}
 use Rattle.tiles_bitmap.specs.Tiles.{header_of, AreTiles, tile_sizes, tile_ends, tiles}
 
 -- the sizes are those that the definition of tiles says, and there are no others
@@ -66,3 +67,19 @@ Ascend from end (place ∷ places) = (from < place) × (place ≤ end) × Ascend
 abbrev pub EndsAscend : Type 0
 EndsAscend =
     (params : FragParams) (mtu bits : ℕ) → IsMtu mtu → 1 ≤ bits → Ascend 0 bits (tile_ends params mtu bits)
+
+-- the run ends with this number: none is left, the next one is no successor, or it is of another window of 63
+abbrev pub EndsAt : ℕ → List ℕ → Type 0
+EndsAt number [] = Unit {0}
+EndsAt number (next ∷ numbers) = (next ≡ suc number → ⊥) ⊎ (next / 63 ≡ number / 63 → ⊥)
+
+-- RFC 8724, section 8.3.1.1: the longest front of the numbers that follow this one without a gap in its window, at most so
+-- many; and the others
+pub record IsLongestRun (most : ℕ) (number : ℕ) (numbers : List ℕ) (taken : ℕ × List ℕ) : Type 0 where
+  pub front : numbers ≡ numbers_from (suc number) taken.0 ++ taken.1
+  pub one_window : (number + taken.0) / 63 ≡ number / 63
+  pub few : taken.0 ≤ most
+  pub longest : (taken.0 ≡ most) ⊎ EndsAt (number + taken.0) taken.1
+
+abbrev pub RunsAreLongest : Type 0
+RunsAreLongest = (most number : ℕ) (numbers : List ℕ) → IsLongestRun most number numbers (run 63 most number numbers)

@@ -1,4 +1,4 @@
--- RFC 8724, sections 8.2.2.2 and 8.3: the numbers of tiles.
+-- RFC 8724, sections 8.2.2.2, 8.2.4 and 8.3: the numbers of tiles. W names the window and FCN the tile in it (section 8.2.4).
 use Rattle.std.specs.Prelude.{ℕ, ◌+◌, ◌-◌, ◌*◌, ◌/◌, ◌%◌, ◌<◌}
 use Rattle.schc_ids.specs.declared.fragments.FragMode.{FragMode}
 use Rattle.schc_ids.specs.declared.fragments.FragMode.TheVariants as mode

@@ -1,6 +1,6 @@
 //! What holds of the tiles of every SCHC packet.
 
-ghost use Rattle.tiles_bitmap.specs.Laws.{CutOnce, TilesJoin, TilesFit, TilesAreLarge, CountsTiles, NumbersName, EndsAscend};
+ghost use Rattle.tiles_bitmap.specs.Laws.{CutOnce, TilesJoin, TilesFit, TilesAreLarge, CountsTiles, NumbersName, EndsAscend, RunsAreLongest};
 
 /// The sizes are those that the definition of tiles says, and there are no others.
 pub fn cut_once()
@@ -36,4 +36,10 @@ pub fn numbers_name()
 /// Each tile ends above the one before, and the last where the packet ends.
 pub fn ends_ascend()
     ensures { EndsAscend }
+{}
+
+/// In ACK-on-Error a Regular carries the longest front of the numbers that follow its first one
+/// without a gap in one window.
+pub fn runs_are_longest()
+    ensures { RunsAreLongest }
 {}

@@ -5,7 +5,7 @@ ghost use Rattle.tiles_bitmap.specs.Numbers.{HasNumber, tile_number};
 
 use schc_ids::{FragMode, FragParams};
 
-/// By what a tile is named in a fragment.
+/// By what a tile is named in a fragment (RFC 8724 section 8.2.4).
 #[derive(Clone, Copy, Debug, PartialEq, Eq)]
 pub struct TileNumber {
     /// The number of its window, W.
@@ -14,7 +14,7 @@ pub struct TileNumber {
     pub fcn: u8,
 }
 
-/// The number of the tile with the index `i`, from 0 (RFC 8724 sections 8.2.2.2 and 8.3). In
+/// The number of the tile with the index `i`, from 0 (RFC 8724 sections 8.2.2.2, 8.2.4 and 8.3). In
 /// ACK-on-Error there are numbers for 252 tiles.
 #[tactic(auto, unfolding(crate::specs::Numbers::tile_number))]
 pub fn tile_number(params: &FragParams, i: usize) -> TileNumber
