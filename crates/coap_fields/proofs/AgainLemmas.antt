@@ -12,7 +12,7 @@ use Rattle.rule_model.specs.First.{first_held}
 use Rattle.rule_model.proofs.FirstLemmas.{first_held-append_none, first_held-from_none}
 use Rattle.coap_fields.specs.Message.{OptionData, Message, next_place, IsOption, AreOptions, IsMessage, spelled}
 use Rattle.coap_fields.specs.Fields.{token_fields, option_field, option_fields, header_fields, fields_of_message, MessageOf}
-use Rattle.coap_fields.specs.Join.{value_in, value_of, presence, stands_after, can_follow, order, contents, gaps, join_refusal, options_from, message_of, message_from}
+use Rattle.coap_fields.specs.Join.{value_in, value_of, presence, stands_after, can_follow, order, value_refusals, gaps, join_refusal, options_from, message_of, message_from}
 use Rattle.coap_fields.proofs.RankLemmas.{after-at_least, order-first, order-moved, stands-above}
 use Rattle.coap_fields.proofs.JoinLemmas.{no_options}
 use Rattle.coap_fields.proofs.BytesLemmas.{spelled-payload}
@@ -114,7 +114,7 @@ header-present kind tkl code id rest =
       ),
     )
 
-token-right : (kind code id : ℕ) (token : List ℕ) (options : List OptionData) → length token ≤ 8 → first_held (contents (header_fields kind (length token) code id ++ rest_of token options)) ≡ None
+token-right : (kind code id : ℕ) (token : List ℕ) (options : List OptionData) → length token ≤ 8 → first_held (value_refusals (header_fields kind (length token) code id ++ rest_of token options)) ≡ None
 token-right kind code id [] options h =
     let zero_tkl : bits_value (number_bits 4 0) ≡ 0 = bits_value-number_bits 4 0 (omega arith) in
     let one : bits_value (number_bits 2 1) ≡ 1 = bits_value-number_bits 2 1 (omega arith) in
@@ -126,7 +126,7 @@ token-right kind code id (byte ∷ token) options h =
     let few : nat_lt 8 (length (byte ∷ token)) ≡ false = le-ltb 8 (length (byte ∷ token)) h in
     let some : (length (byte ∷ token) == 0) ≡ false = ne_eqb (length (byte ∷ token)) 0 (λ e. absurd (omega (arith, e))) in
     let same : (length (octets (byte ∷ token)) == (8 * length (byte ∷ token))) ≡ true = eq-eqb (length (octets (byte ∷ token))) (8 * length (byte ∷ token)) size in
-    first_held-from_none (contents (header_fields kind (length (byte ∷ token)) code id ++ rest_of (byte ∷ token) options)) (
+    first_held-from_none (value_refusals (header_fields kind (length (byte ∷ token)) code id ++ rest_of (byte ∷ token) options)) (
       ap (λ (n : ℕ). not (n == 1)) one,
       (
         ap (λ (n : ℕ). nat_lt 8 n) count ∙ few,
@@ -151,12 +151,12 @@ rest-gapless : (token : List ℕ) (options : List OptionData) → first_held (ga
 rest-gapless [] options = options-gapless 0 0 options
 rest-gapless (byte ∷ token) options = options-gapless 0 0 options
 
-none-refused : (fields : List FieldValue) → first_held (presence fields coap_fields) ≡ None → first_held (order 0 0 fields) ≡ None → first_held (contents fields) ≡ None → first_held (gaps 0 0 fields) ≡ None → join_refusal fields ≡ None
+none-refused : (fields : List FieldValue) → first_held (presence fields coap_fields) ≡ None → first_held (order 0 0 fields) ≡ None → first_held (value_refusals fields) ≡ None → first_held (gaps 0 0 fields) ≡ None → join_refusal fields ≡ None
 unfolding join_refusal
 none-refused fields p o c g =
-    first_held-append_none (presence fields coap_fields) (order 0 0 fields ++ (contents fields ++ gaps 0 0 fields)) p
-    ∙ first_held-append_none (order 0 0 fields) (contents fields ++ gaps 0 0 fields) o
-    ∙ first_held-append_none (contents fields) (gaps 0 0 fields) c
+    first_held-append_none (presence fields coap_fields) (order 0 0 fields ++ (value_refusals fields ++ gaps 0 0 fields)) p
+    ∙ first_held-append_none (order 0 0 fields) (value_refusals fields ++ gaps 0 0 fields) o
+    ∙ first_held-append_none (value_refusals fields) (gaps 0 0 fields) c
     ∙ g
 
 -- the fields of a message aren't refused

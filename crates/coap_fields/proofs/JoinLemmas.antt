@@ -16,7 +16,7 @@ use Rattle.rule_model.specs.First.{first_held}
 use Rattle.rule_model.proofs.FirstLemmas.{first_held-front, first_held-append_none}
 use Rattle.coap_fields.specs.Message.{IsMessage}
 use Rattle.coap_fields.specs.Fields.{at_name, field, token_fields, option_fields, fields_of_message}
-use Rattle.coap_fields.specs.Join.{value_in, value_of, bits_of, presence, order, token_refusals, contents, gaps, join_refusal, options_from, message_of}
+use Rattle.coap_fields.specs.Join.{value_in, value_of, bits_of, presence, order, token_refusals, value_refusals, gaps, join_refusal, options_from, message_of}
 use Rattle.coap_fields.specs.Placed.{IsWritable}
 use Rattle.coap_fields.proofs.RankLemmas.{held-first, order-begins, order-options, order-after_token, Starts, starts}
 use Rattle.coap_fields.proofs.FieldsLemmas.{AreFields, options-are}
@@ -25,29 +25,29 @@ use Rattle.coap_fields.proofs.FieldsLemmas.{AreFields, options-are}
 pub record NoneHeld (fields : List FieldValue) : Type 0 where
   pub present : first_held (presence fields coap_fields) ≡ None
   pub ordered : first_held (order 0 0 fields) ≡ None
-  pub right : first_held (contents fields) ≡ None
+  pub right : first_held (value_refusals fields) ≡ None
   pub no_gap : first_held (gaps 0 0 fields) ≡ None
 
 pub none_held : (fields : List FieldValue) → join_refusal fields ≡ None → NoneHeld fields
 unfolding join_refusal
 none_held fields e =
-    let p : first_held (presence fields coap_fields) ≡ None = first_held-front (presence fields coap_fields) (order 0 0 fields ++ (contents fields ++ gaps 0 0 fields)) e in
-    let q : first_held (order 0 0 fields ++ (contents fields ++ gaps 0 0 fields)) ≡ None = sym (first_held-append_none (presence fields coap_fields) (order 0 0 fields ++ (contents fields ++ gaps 0 0 fields)) p) ∙ e in
-    let o : first_held (order 0 0 fields) ≡ None = first_held-front (order 0 0 fields) (contents fields ++ gaps 0 0 fields) q in
-    let r : first_held (contents fields ++ gaps 0 0 fields) ≡ None = sym (first_held-append_none (order 0 0 fields) (contents fields ++ gaps 0 0 fields) o) ∙ q in
-    let c : first_held (contents fields) ≡ None = first_held-front (contents fields) (gaps 0 0 fields) r in
-    record { present = p; ordered = o; right = c; no_gap = sym (first_held-append_none (contents fields) (gaps 0 0 fields) c) ∙ r }
+    let p : first_held (presence fields coap_fields) ≡ None = first_held-front (presence fields coap_fields) (order 0 0 fields ++ (value_refusals fields ++ gaps 0 0 fields)) e in
+    let q : first_held (order 0 0 fields ++ (value_refusals fields ++ gaps 0 0 fields)) ≡ None = sym (first_held-append_none (presence fields coap_fields) (order 0 0 fields ++ (value_refusals fields ++ gaps 0 0 fields)) p) ∙ e in
+    let o : first_held (order 0 0 fields) ≡ None = first_held-front (order 0 0 fields) (value_refusals fields ++ gaps 0 0 fields) q in
+    let r : first_held (value_refusals fields ++ gaps 0 0 fields) ≡ None = sym (first_held-append_none (order 0 0 fields) (value_refusals fields ++ gaps 0 0 fields) o) ∙ q in
+    let c : first_held (value_refusals fields) ≡ None = first_held-front (value_refusals fields) (gaps 0 0 fields) r in
+    record { present = p; ordered = o; right = c; no_gap = sym (first_held-append_none (value_refusals fields) (gaps 0 0 fields) c) ∙ r }
 
 -- a field is there, with its width
 pub record IsThere (fields : List FieldValue) (name : FieldName) : Type 0 where
   pub value : List Bool
-  pub found : value_in fields name ≡ Some value
+  pub value_is : value_in fields name ≡ Some value
   pub wide : length value ≡ bits_of name
 
-some_there : (fields : List FieldValue) (name : FieldName) (found : Option (List Bool)) → value_in fields name ≡ found → is_none found ≡ false → not (length (unwrap_or found []) == bits_of name) ≡ false → IsThere fields name
+some_there : (fields : List FieldValue) (name : FieldName) (held : Option (List Bool)) → value_in fields name ≡ held → is_none held ≡ false → not (length (unwrap_or held []) == bits_of name) ≡ false → IsThere fields name
 some_there fields name None e a w = absurd (true≢false a)
 some_there fields name (Some value) e a w =
-    record { value = value; found = e; wide = eqb-true (length value) (bits_of name) (not-false (length value == bits_of name) w) }
+    record { value = value; value_is = e; wide = eqb-true (length value) (bits_of name) (not-false (length value == bits_of name) w) }
 
 there : (fields : List FieldValue) (name : FieldName) (names : List FieldName) → first_held (presence fields (name ∷ names)) ≡ None → IsThere fields name × (first_held (presence fields names) ≡ None)
 there fields name names e =
@@ -85,12 +85,12 @@ begins fields p o =
     let k = there fields CoapTkl (CoapCode ∷ CoapMid ∷ []) t.1 in
     let c = there fields CoapCode (CoapMid ∷ []) k.1 in
     let m = there fields CoapMid [] c.1 in
-    let s1 : Starts CoapVersion v.0.value fields = starts 13 fields CoapVersion v.0.value (omega arith) (omega arith) refl (order-begins fields o) v.0.found in
+    let s1 : Starts CoapVersion v.0.value fields = starts 13 fields CoapVersion v.0.value (omega arith) (omega arith) refl (order-begins fields o) v.0.value_is in
     let r1 : List FieldValue = s1.rest in
-    let t1 : value_in r1 CoapType ≡ Some t.0.value = in_rest (field CoapVersion v.0.value) r1 fields CoapType t.0.value s1.is t.0.found in
-    let k1 : value_in r1 CoapTkl ≡ Some k.0.value = in_rest (field CoapVersion v.0.value) r1 fields CoapTkl k.0.value s1.is k.0.found in
-    let c1 : value_in r1 CoapCode ≡ Some c.0.value = in_rest (field CoapVersion v.0.value) r1 fields CoapCode c.0.value s1.is c.0.found in
-    let m1 : value_in r1 CoapMid ≡ Some m.0.value = in_rest (field CoapVersion v.0.value) r1 fields CoapMid m.0.value s1.is m.0.found in
+    let t1 : value_in r1 CoapType ≡ Some t.0.value = in_rest (field CoapVersion v.0.value) r1 fields CoapType t.0.value s1.is t.0.value_is in
+    let k1 : value_in r1 CoapTkl ≡ Some k.0.value = in_rest (field CoapVersion v.0.value) r1 fields CoapTkl k.0.value s1.is k.0.value_is in
+    let c1 : value_in r1 CoapCode ≡ Some c.0.value = in_rest (field CoapVersion v.0.value) r1 fields CoapCode c.0.value s1.is c.0.value_is in
+    let m1 : value_in r1 CoapMid ≡ Some m.0.value = in_rest (field CoapVersion v.0.value) r1 fields CoapMid m.0.value s1.is m.0.value_is in
     let s2 : Starts CoapType t.0.value r1 = starts 14 r1 CoapType t.0.value (omega arith) (omega arith) refl s1.ordered t1 in
     let r2 : List FieldValue = s2.rest in
     let k2 : value_in r2 CoapTkl ≡ Some k.0.value = in_rest (field CoapType t.0.value) r2 r1 CoapTkl k.0.value s2.is k1 in
@@ -130,7 +130,7 @@ pub record Ends (tkl : ℕ) (rest : List FieldValue) : Type 0 where
   pub options : List FieldValue
   pub is : rest ≡ token_fields token ++ options
   pub token_bytes : AreBytes token
-  pub found : bytes_of (value_of rest CoapToken) ≡ token
+  pub token_is : bytes_of (value_of rest CoapToken) ≡ token
   pub ordered : first_held (order 20 0 options) ≡ None
   pub no_gap : first_held (gaps 0 0 rest) ≡ first_held (gaps 0 0 options)
 
@@ -145,7 +145,7 @@ abbrev pub header : List Bool → List Bool → List Bool → List Bool → List
 header version kind tkl code id rest =
     field CoapVersion version ∷ field CoapType kind ∷ field CoapTkl tkl ∷ field CoapCode code ∷ field CoapMid id ∷ rest
 
-is_right : (version kind tkl code id : List Bool) (rest : List FieldValue) → first_held (contents (header version kind tkl code id rest)) ≡ None → IsRight version tkl (value_in rest CoapToken)
+is_right : (version kind tkl code id : List Bool) (rest : List FieldValue) → first_held (value_refusals (header version kind tkl code id rest)) ≡ None → IsRight version tkl (value_in rest CoapToken)
 is_right version kind tkl code id rest e =
     let fields : List FieldValue = header version kind tkl code id rest in
     let token : Option (List Bool) = value_in rest CoapToken in
@@ -183,7 +183,7 @@ ends-none tkl rest n s o =
       options = rest;
       is = refl;
       token_bytes = tt;
-      found = rw n none;
+      token_is = rw n none;
       ordered = order-after_token rest (order-options rest n o);
       no_gap = refl;
     }
@@ -201,7 +201,7 @@ ends-some tkl token rest v k s o =
       options = st.rest;
       is = st.is ∙ ap (λ fs. fs ++ st.rest) (sym one);
       token_bytes = AreBytes-bytes_of token;
-      found = rw v;
+      token_is = rw v;
       ordered = order-after_token st.rest st.ordered;
       no_gap = ap (λ fs. first_held (gaps 0 0 fs)) st.is;
     }
@@ -238,7 +238,7 @@ made-from : (version kind tkl code id : List Bool) (rest : List FieldValue) (pay
 unfolding fields_of_message
 made-from version kind tkl code id rest payload wv wk wt wc wi one most e a =
     let fields : List FieldValue = header version kind tkl code id rest in
-    let found : bytes_of (value_of rest CoapToken) ≡ e.token = e.found in
+    let token_is : bytes_of (value_of rest CoapToken) ≡ e.token = e.token_is in
     let options : options_from rest ≡ options_from e.options = ap options_from e.is ∙ no_options e.token e.options in
     let bits_v : number_bits 2 1 ≡ version = wide_bits version 2 1 wv one in
     let bits_k : number_bits 2 (bits_value kind) ≡ kind = wide_bits kind 2 (bits_value kind) wk refl in
@@ -248,14 +248,14 @@ made-from version kind tkl code id rest payload wv wk wt wc wi one most e a =
     let tail : rest ≡ token_fields e.token ++ option_fields 0 0 (options_from e.options) = e.is ∙ ap (λ fs. token_fields e.token ++ fs) a.is in
     let size : length e.token ≤ 8 = omega (arith, e.size) in
     record {
-      fields_are = rw (found, options, bits_v, bits_k, bits_t, bits_c, bits_i, ← tail);
+      fields_are = rw (token_is, options, bits_v, bits_k, bits_t, bits_c, bits_i, ← tail);
       is_message =
           λ p. record {
             kind = below kind 2 wk;
             code = below code 8 wc;
             id = below id 16 wi;
-            token = rw found size;
-            token_bytes = rw found e.token_bytes;
+            token = rw token_is size;
+            token_bytes = rw token_is e.token_bytes;
             options = rw options a.are_options;
             payload_bytes = p;
           };
@@ -263,7 +263,7 @@ made-from version kind tkl code id rest payload wv wk wt wc wi one most e a =
       kind_width = wk;
       code_width = wc;
       id_width = wi;
-      most = rw found size;
+      most = rw token_is size;
     }
 
 pub made : (fields : List FieldValue) (payload : List ℕ) → join_refusal fields ≡ None → IsMade fields payload
@@ -271,7 +271,7 @@ made fields payload e =
     let n : NoneHeld fields = none_held fields e in
     let b : Begins fields = begins fields n.present n.ordered in
     let right : IsRight b.version b.tkl (value_in b.rest CoapToken) =
-    is_right b.version b.kind b.tkl b.code b.id b.rest (subst (λ (fs : List FieldValue). first_held (contents fs) ≡ None) b.is n.right)
+    is_right b.version b.kind b.tkl b.code b.id b.rest (subst (λ (fs : List FieldValue). first_held (value_refusals fs) ≡ None) b.is n.right)
     in
     let ends : Ends (bits_value b.tkl) b.rest = ends-from b.tkl b.rest (value_in b.rest CoapToken) refl right.extra right.size b.ordered in
     let no_gap : first_held (gaps 0 0 b.rest) ≡ None = subst (λ (fs : List FieldValue). first_held (gaps 0 0 fs) ≡ None) b.is n.no_gap in

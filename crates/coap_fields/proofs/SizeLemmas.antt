@@ -13,7 +13,7 @@ use Rattle.rule_model.specs.declared.parts.JoinFault.{JoinFault}
 use Rattle.rule_model.specs.First.{first_held}
 use Rattle.rule_model.proofs.FirstLemmas.{first_held-append_some, first_held-append_none, first_held-front}
 use Rattle.coap_fields.specs.Message.{Message, extension, options_spelled, payload_spelled, spelled}
-use Rattle.coap_fields.specs.Join.{presence, is_possible, stands_after, is_size_right, can_follow, order, is_whole, can_stand, standing, message_refusals, contents, gaps, number_after, options_from, message_of, message_from, join_refusal}
+use Rattle.coap_fields.specs.Join.{presence, is_possible, stands_after, is_size_right, can_follow, order, is_whole, can_stand, standing, message_refusals, value_refusals, gaps, number_after, options_from, message_of, message_from, join_refusal}
 use Rattle.coap_fields.specs.Placed.{field_spelled}
 use Rattle.coap_fields.proofs.RankLemmas.{held-first, order-first}
 use Rattle.coap_fields.proofs.WriteLemmas.{field-next}
@@ -21,40 +21,40 @@ use Rattle.coap_fields.proofs.JoinLemmas.{NoneHeld, none_held}
 
 pub wrong-presence : (fields : List FieldValue) (fault : JoinFault) → first_held (presence fields coap_fields) ≡ Some fault → first_held (message_refusals fields) ≡ Some fault
 wrong-presence fields fault e =
-    first_held-append_some (presence fields coap_fields) (standing 0 0 fields ++ (contents fields ++ gaps 0 0 fields)) fault e
+    first_held-append_some (presence fields coap_fields) (standing 0 0 fields ++ (value_refusals fields ++ gaps 0 0 fields)) fault e
 
 pub wrong-standing : (fields : List FieldValue) (fault : JoinFault) → first_held (presence fields coap_fields) ≡ None → first_held (standing 0 0 fields) ≡ Some fault → first_held (message_refusals fields) ≡ Some fault
 wrong-standing fields fault p e =
-    first_held-append_none (presence fields coap_fields) (standing 0 0 fields ++ (contents fields ++ gaps 0 0 fields)) p
-    ∙ first_held-append_some (standing 0 0 fields) (contents fields ++ gaps 0 0 fields) fault e
+    first_held-append_none (presence fields coap_fields) (standing 0 0 fields ++ (value_refusals fields ++ gaps 0 0 fields)) p
+    ∙ first_held-append_some (standing 0 0 fields) (value_refusals fields ++ gaps 0 0 fields) fault e
 
-pub wrong-contents : (fields : List FieldValue) (fault : JoinFault) → first_held (presence fields coap_fields) ≡ None → first_held (standing 0 0 fields) ≡ None → first_held (contents fields) ≡ Some fault → first_held (message_refusals fields) ≡ Some fault
-wrong-contents fields fault p o e =
-    first_held-append_none (presence fields coap_fields) (standing 0 0 fields ++ (contents fields ++ gaps 0 0 fields)) p
-    ∙ first_held-append_none (standing 0 0 fields) (contents fields ++ gaps 0 0 fields) o
-    ∙ first_held-append_some (contents fields) (gaps 0 0 fields) fault e
+pub wrong-values : (fields : List FieldValue) (fault : JoinFault) → first_held (presence fields coap_fields) ≡ None → first_held (standing 0 0 fields) ≡ None → first_held (value_refusals fields) ≡ Some fault → first_held (message_refusals fields) ≡ Some fault
+wrong-values fields fault p o e =
+    first_held-append_none (presence fields coap_fields) (standing 0 0 fields ++ (value_refusals fields ++ gaps 0 0 fields)) p
+    ∙ first_held-append_none (standing 0 0 fields) (value_refusals fields ++ gaps 0 0 fields) o
+    ∙ first_held-append_some (value_refusals fields) (gaps 0 0 fields) fault e
 
-pub wrong-gaps : (fields : List FieldValue) → first_held (presence fields coap_fields) ≡ None → first_held (standing 0 0 fields) ≡ None → first_held (contents fields) ≡ None → first_held (message_refusals fields) ≡ first_held (gaps 0 0 fields)
+pub wrong-gaps : (fields : List FieldValue) → first_held (presence fields coap_fields) ≡ None → first_held (standing 0 0 fields) ≡ None → first_held (value_refusals fields) ≡ None → first_held (message_refusals fields) ≡ first_held (gaps 0 0 fields)
 wrong-gaps fields p o c =
-    first_held-append_none (presence fields coap_fields) (standing 0 0 fields ++ (contents fields ++ gaps 0 0 fields)) p
-    ∙ first_held-append_none (standing 0 0 fields) (contents fields ++ gaps 0 0 fields) o
-    ∙ first_held-append_none (contents fields) (gaps 0 0 fields) c
+    first_held-append_none (presence fields coap_fields) (standing 0 0 fields ++ (value_refusals fields ++ gaps 0 0 fields)) p
+    ∙ first_held-append_none (standing 0 0 fields) (value_refusals fields ++ gaps 0 0 fields) o
+    ∙ first_held-append_none (value_refusals fields) (gaps 0 0 fields) c
 
 -- no condition but those of the options' sizes holds
 record NoneWrong (fields : List FieldValue) : Type 0 where
   present : first_held (presence fields coap_fields) ≡ None
   stands : first_held (standing 0 0 fields) ≡ None
-  right : first_held (contents fields) ≡ None
+  right : first_held (value_refusals fields) ≡ None
   no_gap : first_held (gaps 0 0 fields) ≡ None
 
 none_wrong : (fields : List FieldValue) → first_held (message_refusals fields) ≡ None → NoneWrong fields
 none_wrong fields e =
-    let p : first_held (presence fields coap_fields) ≡ None = first_held-front (presence fields coap_fields) (standing 0 0 fields ++ (contents fields ++ gaps 0 0 fields)) e in
-    let q : first_held (standing 0 0 fields ++ (contents fields ++ gaps 0 0 fields)) ≡ None = sym (first_held-append_none (presence fields coap_fields) (standing 0 0 fields ++ (contents fields ++ gaps 0 0 fields)) p) ∙ e in
-    let o : first_held (standing 0 0 fields) ≡ None = first_held-front (standing 0 0 fields) (contents fields ++ gaps 0 0 fields) q in
-    let r : first_held (contents fields ++ gaps 0 0 fields) ≡ None = sym (first_held-append_none (standing 0 0 fields) (contents fields ++ gaps 0 0 fields) o) ∙ q in
-    let c : first_held (contents fields) ≡ None = first_held-front (contents fields) (gaps 0 0 fields) r in
-    record { present = p; stands = o; right = c; no_gap = sym (first_held-append_none (contents fields) (gaps 0 0 fields) c) ∙ r }
+    let p : first_held (presence fields coap_fields) ≡ None = first_held-front (presence fields coap_fields) (standing 0 0 fields ++ (value_refusals fields ++ gaps 0 0 fields)) e in
+    let q : first_held (standing 0 0 fields ++ (value_refusals fields ++ gaps 0 0 fields)) ≡ None = sym (first_held-append_none (presence fields coap_fields) (standing 0 0 fields ++ (value_refusals fields ++ gaps 0 0 fields)) p) ∙ e in
+    let o : first_held (standing 0 0 fields) ≡ None = first_held-front (standing 0 0 fields) (value_refusals fields ++ gaps 0 0 fields) q in
+    let r : first_held (value_refusals fields ++ gaps 0 0 fields) ≡ None = sym (first_held-append_none (standing 0 0 fields) (value_refusals fields ++ gaps 0 0 fields) o) ∙ q in
+    let c : first_held (value_refusals fields) ≡ None = first_held-front (value_refusals fields) (gaps 0 0 fields) r in
+    record { present = p; stands = o; right = c; no_gap = sym (first_held-append_none (value_refusals fields) (gaps 0 0 fields) c) ∙ r }
 
 -- whole bytes are few enough, or their option is long
 size-cases : (name : FieldName) (value : List Bool) → is_whole name value ≡ true → (is_size_right name value ≡ true) ⊎ ((before : ℕ) → 65804 < length (field_spelled before name value))
@@ -96,9 +96,9 @@ size-refusal fields payload e =
     let m : Message = message_of fields payload in
     elim (order-cases 0 0 fields n.stands) [
       | inl o ↦
-          inl (first_held-append_none (presence fields coap_fields) (order 0 0 fields ++ (contents fields ++ gaps 0 0 fields)) n.present
-          ∙ first_held-append_none (order 0 0 fields) (contents fields ++ gaps 0 0 fields) o
-          ∙ first_held-append_none (contents fields) (gaps 0 0 fields) n.right
+          inl (first_held-append_none (presence fields coap_fields) (order 0 0 fields ++ (value_refusals fields ++ gaps 0 0 fields)) n.present
+          ∙ first_held-append_none (order 0 0 fields) (value_refusals fields ++ gaps 0 0 fields) o
+          ∙ first_held-append_none (value_refusals fields) (gaps 0 0 fields) n.right
           ∙ n.no_gap)
       | inr long ↦
           inr (omega (

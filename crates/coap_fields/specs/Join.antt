@@ -58,8 +58,8 @@ token_refusals fields =
     ∷ []
 
 -- what the values have to be: the version is 1, and the token at most 8 bytes long
-abbrev pub contents : List FieldValue → List (Bool × JoinFault)
-contents fields =
+abbrev pub value_refusals : List FieldValue → List (Bool × JoinFault)
+value_refusals fields =
     (not (bits_value (value_of fields CoapVersion) == 1), FieldWrong (at_name CoapVersion))
     ∷ (nat_lt 8 (tkl_of fields), FieldWrong (at_name CoapTkl))
     ∷ token_refusals fields
@@ -109,11 +109,11 @@ standing rank position (f ∷ fields) =
 -- in their order, the conditions under which the fields make no message, but for the size of an option
 abbrev pub message_refusals : List FieldValue → List (Bool × JoinFault)
 message_refusals fields =
-    presence fields coap_fields ++ (standing 0 0 fields ++ (contents fields ++ gaps 0 0 fields))
+    presence fields coap_fields ++ (standing 0 0 fields ++ (value_refusals fields ++ gaps 0 0 fields))
 
 -- in their order, the conditions under which the fields make no message
 abbrev pub join_refusals : List FieldValue → List (Bool × JoinFault)
-join_refusals fields = presence fields coap_fields ++ (order 0 0 fields ++ (contents fields ++ gaps 0 0 fields))
+join_refusals fields = presence fields coap_fields ++ (order 0 0 fields ++ (value_refusals fields ++ gaps 0 0 fields))
 
 -- the first condition that holds; none where they make one
 unfoldable pub join_refusal : List FieldValue → Option JoinFault

@@ -25,7 +25,7 @@ ghost use Rattle.coap_fields.specs.Join.{
   message_refusals,
   tkl_of,
   token_refusals,
-  contents,
+  value_refusals,
   gap,
   number_after,
   position_after,
@@ -192,7 +192,7 @@ pub fn number_in(fields: &[FieldValue], name: FieldName) -> u64
 fn content_fault(fields: &[FieldValue]) -> Option<JoinFault>
     requires version { length (value_of fields.now FieldName.CoapVersion) ≤ 64 }
     requires tkl { length (value_of fields.now FieldName.CoapTkl) ≤ 64 }
-    ensures { result ≡ first_held (contents fields.now) }
+    ensures { result ≡ first_held (value_refusals fields.now) }
 {
     if number_in(fields, FieldName::CoapVersion) != 1 {
         return Some(JoinFault::FieldWrong(at_name(FieldName::CoapVersion)));

@@ -17,7 +17,7 @@ use Rattle.rule_model.specs.declared.value.FieldValue.{FieldValue}
 use Rattle.rule_model.specs.First.{first_held}
 use Rattle.ip_udp_fields.specs.Layout.{IsWithoutCoap, header_size, mirrored, fields_in_packet_order, place_of, bits_of, piece, number_in}
 use Rattle.ip_udp_fields.specs.Fields.{at_name, field_in, fields_in, IsIpv6, IsUdp, IsPacketOf, FieldsOf}
-use Rattle.ip_udp_fields.specs.Join.{value_in, value_of, presence, order, is_number, has_number, contents, join_refusal, values_in, header_bits}
+use Rattle.ip_udp_fields.specs.Join.{value_in, value_of, presence, order, is_number, has_number, value_refusals, join_refusal, values_in, header_bits}
 use Rattle.rule_model.proofs.FirstLemmas.{first_held-none, first_held-front, first_held-append_none}
 use Rattle.ip_udp_fields.proofs.OrderLemmas.{are_distinct, with_value, order-all, presence-all}
 use Rattle.ip_udp_fields.proofs.SpanLemmas.{span-headers, HaveWidths, length-values_in, pieces-values_in, unmirror, mirror, to_packet_order, from_packet_order}
@@ -26,22 +26,22 @@ use Rattle.ip_udp_fields.proofs.SpanLemmas.{span-headers, HaveWidths, length-val
 pub record NoneHeld (of : Stack) (direction : Direction) (fields : List FieldValue) (size : ℕ) : Type 0 where
   pub present : first_held (presence fields (fields_in_packet_order of direction)) ≡ None
   pub ordered : first_held (order (fields_in_packet_order of direction) fields) ≡ None
-  pub right : first_held (contents of fields size) ≡ None
+  pub right : first_held (value_refusals of fields size) ≡ None
 
 pub join_refusal-none : (of : Stack) (direction : Direction) (fields : List FieldValue) (size : ℕ) → join_refusal of direction fields size ≡ None → NoneHeld of direction fields size
 unfolding join_refusal
 join_refusal-none of direction fields size e =
     let first : first_held (presence fields (fields_in_packet_order of direction)) ≡ None =
-    first_held-front (presence fields (fields_in_packet_order of direction)) (order (fields_in_packet_order of direction) fields ++ contents of fields size) e
+    first_held-front (presence fields (fields_in_packet_order of direction)) (order (fields_in_packet_order of direction) fields ++ value_refusals of fields size) e
     in
-    let rest : first_held (order (fields_in_packet_order of direction) fields ++ contents of fields size) ≡ None =
-    sym (first_held-append_none (presence fields (fields_in_packet_order of direction)) (order (fields_in_packet_order of direction) fields ++ contents of fields size) first) ∙ e
+    let rest : first_held (order (fields_in_packet_order of direction) fields ++ value_refusals of fields size) ≡ None =
+    sym (first_held-append_none (presence fields (fields_in_packet_order of direction)) (order (fields_in_packet_order of direction) fields ++ value_refusals of fields size) first) ∙ e
     in
-    let second : first_held (order (fields_in_packet_order of direction) fields) ≡ None = first_held-front (order (fields_in_packet_order of direction) fields) (contents of fields size) rest in
+    let second : first_held (order (fields_in_packet_order of direction) fields) ≡ None = first_held-front (order (fields_in_packet_order of direction) fields) (value_refusals of fields size) rest in
     record {
       present = first;
       ordered = second;
-      right = sym (first_held-append_none (order (fields_in_packet_order of direction) fields) (contents of fields size) second) ∙ rest;
+      right = sym (first_held-append_none (order (fields_in_packet_order of direction) fields) (value_refusals of fields size) second) ∙ rest;
     }
 
 distinct-fields : (of : Stack) (direction : Direction) → IsWithoutCoap of → are_distinct (fields_in_packet_order of direction) ≡ true
@@ -100,7 +100,7 @@ piece-number place width number packet value e v = ap bits_value e ∙ v
 
 joined-ip : (direction : Direction) (packet : List ℕ) (fields : List FieldValue) (size : ℕ) → NoneHeld stack.Ip direction fields size → length packet ≡ 40 + size → AllByRecursion (λ n. piece (place_of direction n) (bits_of n) packet ≡ value_of fields n) (fields_of_stack stack.Ip) → IsIpv6 packet
 joined-ip direction packet fields size none l a =
-    let right = first_held-none (contents stack.Ip fields size) none.right in
+    let right = first_held-none (value_refusals stack.Ip fields size) none.right in
     record {
       header = omega arith;
       version = piece-number 0 4 6 packet (value_of fields IpVersion) a.0 (has_number-value fields IpVersion 6 right.0);
@@ -111,7 +111,7 @@ joined-ip direction packet fields size none l a =
 
 joined-udp : (direction : Direction) (packet : List ℕ) (fields : List FieldValue) (size : ℕ) → NoneHeld stack.IpUdp direction fields size → length packet ≡ 48 + size → AllByRecursion (λ n. piece (place_of direction n) (bits_of n) packet ≡ value_of fields n) (fields_of_stack stack.IpUdp) → IsUdp packet
 joined-udp direction packet fields size none l a =
-    let right = first_held-none (contents stack.IpUdp fields size) none.right in
+    let right = first_held-none (value_refusals stack.IpUdp fields size) none.right in
     record {
       ipv6 =
           record {

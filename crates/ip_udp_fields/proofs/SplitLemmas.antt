@@ -18,7 +18,7 @@ use Rattle.rule_model.specs.First.{first_held}
 use Rattle.ip_udp_fields.specs.Layout.{IsWithoutCoap, header_size, fields_in_packet_order, place_of, bits_of, piece, number_in}
 use Rattle.ip_udp_fields.specs.Fields.{fields_in, IsIpv6, IsUdp, IsPacketOf, FieldsOf}
 use Rattle.ip_udp_fields.specs.Refusals.{ip_refusals, udp_refusals, refusal}
-use Rattle.ip_udp_fields.specs.Join.{value_in, value_of, presence_of, presence, order, is_number, contents, join_refusal, values_in}
+use Rattle.ip_udp_fields.specs.Join.{value_in, value_of, presence_of, presence, order, is_number, value_refusals, join_refusal, values_in}
 use Rattle.rule_model.proofs.FirstLemmas.{first_held-from_none, first_held-append_none}
 use Rattle.ip_udp_fields.proofs.PlaceLemmas.{is_within, fields_in_packet_order-within}
 use Rattle.ip_udp_fields.proofs.RefusalLemmas.{refusal-is_packet, header_size-is_packet}
@@ -29,22 +29,22 @@ abbrev pub field_bits : Direction → List ℕ → FieldName → List Bool
 field_bits direction packet name = piece (place_of direction name) (bits_of name) packet
 
 -- each field is found with its bits
-found-ip : (direction : Direction) (packet : List ℕ) → AllByRecursion (λ n. value_in (fields_in stack.Ip direction packet) n ≡ Some (field_bits direction packet n)) (fields_of_stack stack.Ip)
+fields_found-ip : (direction : Direction) (packet : List ℕ) → AllByRecursion (λ n. value_in (fields_in stack.Ip direction packet) n ≡ Some (field_bits direction packet n)) (fields_of_stack stack.Ip)
 unfolding fields_in
-found-ip Up packet = (refl, (refl, (refl, (refl, (refl, (refl, (refl, (refl, (refl, (refl, tt))))))))))
-found-ip Down packet = (refl, (refl, (refl, (refl, (refl, (refl, (refl, (refl, (refl, (refl, tt))))))))))
+fields_found-ip Up packet = (refl, (refl, (refl, (refl, (refl, (refl, (refl, (refl, (refl, (refl, tt))))))))))
+fields_found-ip Down packet = (refl, (refl, (refl, (refl, (refl, (refl, (refl, (refl, (refl, (refl, tt))))))))))
 
-found-udp : (direction : Direction) (packet : List ℕ) → AllByRecursion (λ n. value_in (fields_in stack.IpUdp direction packet) n ≡ Some (field_bits direction packet n)) (fields_of_stack stack.IpUdp)
+fields_found-udp : (direction : Direction) (packet : List ℕ) → AllByRecursion (λ n. value_in (fields_in stack.IpUdp direction packet) n ≡ Some (field_bits direction packet n)) (fields_of_stack stack.IpUdp)
 unfolding fields_in
-found-udp Up packet =
+fields_found-udp Up packet =
     (refl, (refl, (refl, (refl, (refl, (refl, (refl, (refl, (refl, (refl, (refl, (refl, (refl, (refl, tt))))))))))))))
-found-udp Down packet =
+fields_found-udp Down packet =
     (refl, (refl, (refl, (refl, (refl, (refl, (refl, (refl, (refl, (refl, (refl, (refl, (refl, (refl, tt))))))))))))))
 
-pub found : (of : Stack) (direction : Direction) (packet : List ℕ) → IsWithoutCoap of → AllByRecursion (λ n. value_in (fields_in of direction packet) n ≡ Some (field_bits direction packet n)) (fields_of_stack of)
-found stack.Ip direction packet h = found-ip direction packet
-found stack.IpUdp direction packet h = found-udp direction packet
-found stack.IpUdpCoap direction packet h = absurd h
+pub fields_found : (of : Stack) (direction : Direction) (packet : List ℕ) → IsWithoutCoap of → AllByRecursion (λ n. value_in (fields_in of direction packet) n ≡ Some (field_bits direction packet n)) (fields_of_stack of)
+fields_found stack.Ip direction packet h = fields_found-ip direction packet
+fields_found stack.IpUdp direction packet h = fields_found-udp direction packet
+fields_found stack.IpUdpCoap direction packet h = absurd h
 
 pub ordered : (of : Stack) (direction : Direction) (packet : List ℕ) → IsWithoutCoap of → first_held (order (fields_in_packet_order of direction) (fields_in of direction packet)) ≡ None
 unfolding fields_in
@@ -88,11 +88,11 @@ is_number-piece place width number packet value v h e =
 not_below : (a b : ℕ) → b ≤ a → nat_lt a b ≡ false
 not_below a b h = le-ltb a b h
 
-right-ip : (direction : Direction) (packet : List ℕ) (size : ℕ) → IsIpv6 packet → size + 40 ≡ length packet → size ≤ 65535 → first_held (contents stack.Ip (fields_in stack.Ip direction packet) size) ≡ None
+right-ip : (direction : Direction) (packet : List ℕ) (size : ℕ) → IsIpv6 packet → size + 40 ≡ length packet → size ≤ 65535 → first_held (value_refusals stack.Ip (fields_in stack.Ip direction packet) size) ≡ None
 right-ip direction packet size p s m =
     let its : List FieldValue = fields_in stack.Ip direction packet in
-    let all = found-ip direction packet in
-    first_held-from_none (contents stack.Ip its size) (
+    let all = fields_found-ip direction packet in
+    first_held-from_none (value_refusals stack.Ip its size) (
       is_number-piece 0 4 6 packet (value_in its IpVersion) all.0 (omega (arith, p.header)) p.version,
       (
         not_below 65535 size m,
@@ -100,11 +100,11 @@ right-ip direction packet size p s m =
       ),
     )
 
-right-udp : (direction : Direction) (packet : List ℕ) (size : ℕ) → IsUdp packet → size + 48 ≡ length packet → 8 + size ≤ 65535 → first_held (contents stack.IpUdp (fields_in stack.IpUdp direction packet) size) ≡ None
+right-udp : (direction : Direction) (packet : List ℕ) (size : ℕ) → IsUdp packet → size + 48 ≡ length packet → 8 + size ≤ 65535 → first_held (value_refusals stack.IpUdp (fields_in stack.IpUdp direction packet) size) ≡ None
 right-udp direction packet size p s m =
     let its : List FieldValue = fields_in stack.IpUdp direction packet in
-    let all = found-udp direction packet in
-    first_held-from_none (contents stack.IpUdp its size) (
+    let all = fields_found-udp direction packet in
+    first_held-from_none (value_refusals stack.IpUdp its size) (
       is_number-piece 0 4 6 packet (value_in its IpVersion) all.0 (omega (arith, p.header)) p.ipv6.version,
       (
         is_number-piece 48 8 17 packet (value_in its IpNextHeader) all.1.1.1.1.0 (omega (arith, p.header)) p.next_header,
@@ -118,7 +118,7 @@ right-udp direction packet size p s m =
       ),
     )
 
-right : (of : Stack) (direction : Direction) (packet : List ℕ) → IsPacketOf of packet → first_held (contents of (fields_in of direction packet) (length packet - header_size of)) ≡ None
+right : (of : Stack) (direction : Direction) (packet : List ℕ) → IsPacketOf of packet → first_held (value_refusals of (fields_in of direction packet) (length packet - header_size of)) ≡ None
 right stack.Ip direction packet p =
     right-ip direction packet (length packet - 40) p (omega (arith, p.header)) (omega (arith, p.payload_length, number_in-below 32 16 packet))
 right stack.IpUdp direction packet p =
@@ -140,11 +140,11 @@ joins_again of direction packet fields from f =
     let size : ℕ = length packet - header_size of in
     let long : header_size of ≤ length packet = header_size-is_packet of packet f.is_packet in
     let none_absent : first_held (presence its names) ≡ None =
-    present its (field_bits direction packet) names (to_packet_order (λ n. value_in its n ≡ Some (field_bits direction packet n)) of direction h (found of direction packet h)) (lengths of direction packet names long (fields_in_packet_order-within of direction h))
+    present its (field_bits direction packet) names (to_packet_order (λ n. value_in its n ≡ Some (field_bits direction packet n)) of direction h (fields_found of direction packet h)) (lengths of direction packet names long (fields_in_packet_order-within of direction h))
     in
-    let none : first_held (presence its names ++ (order names its ++ contents of its size)) ≡ None =
-    first_held-append_none (presence its names) (order names its ++ contents of its size) none_absent
-    ∙ first_held-append_none (order names its) (contents of its size) (ordered of direction packet h)
+    let none : first_held (presence its names ++ (order names its ++ value_refusals of its size)) ≡ None =
+    first_held-append_none (presence its names) (order names its ++ value_refusals of its size) none_absent
+    ∙ first_held-append_none (order names its) (value_refusals of its size) (ordered of direction packet h)
     ∙ right of direction packet f.is_packet
     in
     let count : length (drop from packet) ≡ size = length-drop from packet ∙ ap (λ (n : ℕ). length packet - n) f.its_payload in
@@ -164,7 +164,7 @@ pub headers : (of : Stack) (direction : Direction) (packet : List ℕ) → IsWit
 unfolding piece
 headers of direction packet h =
     let its : List FieldValue = fields_in of direction packet in
-    let all = mirror (λ n. value_of its n ≡ field_bits direction packet n) of direction h (values its (field_bits direction packet) (fields_of_stack of) (found of direction packet h)) in
+    let all = mirror (λ n. value_of its n ≡ field_bits direction packet n) of direction h (values its (field_bits direction packet) (fields_of_stack of) (fields_found of direction packet h)) in
     let whole : 8 * header_size of - 0 ≡ 8 * header_size of = omega arith in
     let joined : values_in direction its (fields_of_stack of) ≡ take (8 * header_size of - 0) (octets packet) =
     values_in-pieces direction its (fields_of_stack of) 0 (8 * header_size of) packet (span-headers of direction h) all

@@ -48,9 +48,9 @@ abbrev pub too_many : ℕ → Bool × JoinFault
 too_many bytes = (nat_lt 65535 bytes, FieldWrong (at_name IpPayloadLength))
 
 -- what the values have to be, with this many bytes of payload
-abbrev pub contents : Stack → List FieldValue → ℕ → List (Bool × JoinFault)
-contents stack.Ip fields size = other_number fields IpVersion 6 ∷ too_many size ∷ other_number fields IpPayloadLength size ∷ []
-contents _ fields size =
+abbrev pub value_refusals : Stack → List FieldValue → ℕ → List (Bool × JoinFault)
+value_refusals stack.Ip fields size = other_number fields IpVersion 6 ∷ too_many size ∷ other_number fields IpPayloadLength size ∷ []
+value_refusals _ fields size =
     other_number fields IpVersion 6
     ∷ other_number fields IpNextHeader 17
     ∷ too_many (8 + size)
@@ -62,7 +62,7 @@ contents _ fields size =
 abbrev pub join_refusals : Stack → Direction → List FieldValue → ℕ → List (Bool × JoinFault)
 join_refusals stack direction fields size =
     presence fields (fields_in_packet_order stack direction)
-    ++ (order (fields_in_packet_order stack direction) fields ++ contents stack fields size)
+    ++ (order (fields_in_packet_order stack direction) fields ++ value_refusals stack fields size)
 
 -- the first condition that holds; none where they make one
 unfoldable pub join_refusal : Stack → Direction → List FieldValue → ℕ → Option JoinFault

@@ -14,7 +14,7 @@ ghost use Rattle.ip_udp_fields.specs.Join.{
   order,
   has_number,
   is_number,
-  contents,
+  value_refusals,
   join_refusal,
   values_in,
   header_bits,
@@ -155,7 +155,7 @@ fn names_after(at: FieldAt, names: &[FieldName]) -> Option<&[FieldName]>
 /// most 65,535; the payload length and the UDP length are their number. The first field that is
 /// wrong is named.
 pub fn content_fault(stack: Stack, fields: &[FieldValue], size: usize) -> Option<JoinFault>
-    ensures { result ≡ first_held (contents stack fields.now size) }
+    ensures { result ≡ first_held (value_refusals stack fields.now size) }
 {
     match stack {
         Stack::Ip => ip_content_fault(fields, size),
@@ -164,7 +164,7 @@ pub fn content_fault(stack: Stack, fields: &[FieldValue], size: usize) -> Option
 }
 
 fn ip_content_fault(fields: &[FieldValue], size: usize) -> Option<JoinFault>
-    ensures { result ≡ first_held (contents Stack.Ip fields.now size) }
+    ensures { result ≡ first_held (value_refusals Stack.Ip fields.now size) }
 {
     if !has_number(fields, FieldName::IpVersion, 6) {
         return wrong(FieldName::IpVersion);
@@ -176,7 +176,7 @@ fn ip_content_fault(fields: &[FieldValue], size: usize) -> Option<JoinFault>
 }
 
 fn udp_content_fault(fields: &[FieldValue], size: usize) -> Option<JoinFault>
-    ensures { result ≡ first_held (contents Stack.IpUdp fields.now size) }
+    ensures { result ≡ first_held (value_refusals Stack.IpUdp fields.now size) }
 {
     if !has_number(fields, FieldName::IpVersion, 6) {
         return wrong(FieldName::IpVersion);

@@ -18,7 +18,7 @@ use Rattle.schc_ids.specs.Limits.{uncompressed_port}
 use Rattle.packer.specs.Schc.{IsChosen}
 use Rattle.packer.specs.Unpacking.{unpacked, under, read_by, read_under, read_whole}
 use Rattle.packer.specs.Laws.{AgreeOn}
-use Rattle.packer.proofs.UnpackedLemmas.{listed-found}
+use Rattle.packer.proofs.reading.UnpackedLemmas.{listed-found}
 
 -- the RuleID is that of packets that no rule compresses, or the edition lists a rule under it
 abbrev pub IsKnown : EditionData → ℕ → Type 0
@@ -26,7 +26,7 @@ IsKnown edition id = (id ≡ uncompressed_port) ⊎ ((listed : Listed) × (looku
 
 -- the edition that writes a packet knows the RuleID under which it is written
 pub chosen-known : (edition : EditionData) (iids : Iids) (way : Direction) (packet : List ℕ) (id : ℕ) (bits : List Bool) → IsAscending edition.rules → IsChosen edition iids way packet id bits → IsKnown edition id
-chosen-known edition iids way packet id bits ascending (IsChosen.by_rule listed form candidate least) = inr (listed, listed-found edition.rules listed ascending candidate.listing)
+chosen-known edition iids way packet id bits ascending (IsChosen.by_rule listed schc_packet candidate least) = inr (listed, listed-found edition.rules listed ascending candidate.listing)
 chosen-known edition iids way packet id bits ascending (IsChosen.by_none none) = inl refl
 
 under-id : (id : ℕ) (r : Result (List ℕ) UnpackFault) (read : UnpackedData) → under id r ≡ Ok read → read.rule_id ≡ id

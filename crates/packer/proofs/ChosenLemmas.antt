@@ -1,4 +1,4 @@
--- The form that is written is the one that is chosen.
+-- The SCHC packet that is written is the one that is chosen.
 use Rattle.std.specs.Prelude.{ℕ, ◌≡◌, ◌<◌, ◌≤◌, ◌⊎◌, zero, suc, Bool, true, List, [], ◌∷◌, ◌++◌, length, drop, Option, Some, None, Contains}
 use Rattle.std.proofs.Common.{arith, ap, refl, sym, ◌∙◌, subst, inl, inr}
 use Rattle.std.proofs.lemmas.Bool.{cases_Bool}
@@ -20,10 +20,10 @@ use Rattle.packer.specs.Schc.IsChosen.{by_rule, by_none}
 use Rattle.packer.specs.Packing.{SchcPacketData, schc_packet_under, matching_schc_packet, schc_packet_by, candidate_of, is_preferred, shorter, shortest, schc_packet_or_whole, packed}
 use Rattle.packer.specs.Laws.{PacksChosen}
 use Rattle.packer.proofs.SplitLemmas.{split_of-packet, packet-split_of, packet-one}
-use Rattle.packer.proofs.FirstLemmas.{ComesFirst, preferred-true, preferred-false, first-trans}
-use Rattle.packer.proofs.ShorterLemmas.{shorter-first, shorter-later, shorter-both}
+use Rattle.packer.proofs.writing.FirstLemmas.{ComesFirst, preferred-true, preferred-false, first-trans}
+use Rattle.packer.proofs.writing.ShorterLemmas.{shorter-first, shorter-later, shorter-both}
 
--- the form of a split packet that the rule matches
+-- the SCHC packet of a split packet that the rule matches
 matching_schc_packet-some : (rule : RuleData) (iids : Iids) (direction : Direction) (packet : List ℕ) (o : Option SplitData) (f : SchcPacketData) → matching_schc_packet rule iids direction packet o ≡ Some f → (split : SplitData) × (o ≡ Some split) × (does_match rule iids direction split.fields (computed_over (stack_of rule) packet) ≡ true) × (f ≡ schc_packet_under rule direction packet split)
 matching_schc_packet-some rule iids direction packet None f e = absurd (cc)
 matching_schc_packet-some rule iids direction packet (Some split) f e =
@@ -37,17 +37,17 @@ matching_schc_packet-some rule iids direction packet (Some split) f e =
           absurd (cc)
     ]
 
--- a form under a listed rule is of a live rule that matches
-pub record IsForm (iids : Iids) (direction : Direction) (packet : List ℕ) (listed : Listed) (f : SchcPacketData) : Type 0 where
+-- an SCHC packet under a listed rule is of a live rule that matches
+pub record IsUnderRule (iids : Iids) (direction : Direction) (packet : List ℕ) (listed : Listed) (f : SchcPacketData) : Type 0 where
   pub split : SplitData
   pub live : listed.live ≡ true
   pub is_split : split_of (stack_of listed.rule) direction packet ≡ Some split
   pub passes : does_match listed.rule iids direction split.fields (computed_over (stack_of listed.rule) packet) ≡ true
   pub is : f ≡ schc_packet_under listed.rule direction packet split
 
-pub form-parts : (iids : Iids) (direction : Direction) (packet : List ℕ) (listed : Listed) (f : SchcPacketData) → schc_packet_by iids direction packet listed ≡ Some f → IsForm iids direction packet listed f
+pub schc_packet-parts : (iids : Iids) (direction : Direction) (packet : List ℕ) (listed : Listed) (f : SchcPacketData) → schc_packet_by iids direction packet listed ≡ Some f → IsUnderRule iids direction packet listed f
 unfolding schc_packet_by
-form-parts iids direction packet listed f e =
+schc_packet-parts iids direction packet listed f e =
     elim (cases_Bool listed.live) [
       | inl t ↦
           let schc_packet : schc_packet_by iids direction packet listed ≡ matching_schc_packet listed.rule iids direction packet (split_of (stack_of listed.rule) direction packet) = rw t refl in
@@ -59,9 +59,9 @@ form-parts iids direction packet listed f e =
     ]
 
 -- and is the packet's
-pub form-candidate : (edition : EditionData) (iids : Iids) (direction : Direction) (packet : List ℕ) (listed : Listed) (f : SchcPacketData) → AreBytes packet → Contains edition.rules listed → schc_packet_by iids direction packet listed ≡ Some f → IsCandidate edition iids direction packet listed f.bits
-form-candidate edition iids direction packet listed f bytes among e =
-    let schc_packet : IsForm iids direction packet listed f = form-parts iids direction packet listed f e in
+pub schc_packet-candidate : (edition : EditionData) (iids : Iids) (direction : Direction) (packet : List ℕ) (listed : Listed) (f : SchcPacketData) → AreBytes packet → Contains edition.rules listed → schc_packet_by iids direction packet listed ≡ Some f → IsCandidate edition iids direction packet listed f.bits
+schc_packet-candidate edition iids direction packet listed f bytes among e =
+    let schc_packet : IsUnderRule iids direction packet listed f = schc_packet-parts iids direction packet listed f e in
     record {
       listing = among;
       is_live = schc_packet.live;
@@ -79,10 +79,10 @@ form-candidate edition iids direction packet listed f bytes among e =
       };
     }
 
--- a rule that is a candidate gives its form
-pub candidate-form : (edition : EditionData) (iids : Iids) (direction : Direction) (packet : List ℕ) (listed : Listed) (bits : List Bool) → IsCandidate edition iids direction packet listed bits → schc_packet_by iids direction packet listed ≡ Some (record { rule_id = listed.rule.id; bits = bits })
+-- a rule that is a candidate gives its SCHC packet
+pub candidate-schc_packet : (edition : EditionData) (iids : Iids) (direction : Direction) (packet : List ℕ) (listed : Listed) (bits : List Bool) → IsCandidate edition iids direction packet listed bits → schc_packet_by iids direction packet listed ≡ Some (record { rule_id = listed.rule.id; bits = bits })
 unfolding schc_packet_by
-candidate-form edition iids direction packet listed bits c =
+candidate-schc_packet edition iids direction packet listed bits c =
     let split : split_of (stack_of listed.rule) direction packet ≡ Some (record { fields = c.matching.fields; payload_from = c.matching.payload_from }) = packet-split_of (stack_of listed.rule) direction packet c.matching.fields c.matching.payload_from c.matching.is_packet in
     let test : does_match listed.rule iids direction c.matching.fields (computed_over (stack_of listed.rule) packet) ≡ true = does_match-from listed.rule iids direction c.matching.fields (computed_over (stack_of listed.rule) packet) c.matching.matches in
     let one : (c.its_schc_packet.fields ≡ c.matching.fields) × (c.its_schc_packet.payload_from ≡ c.matching.payload_from) = packet-one (stack_of listed.rule) direction packet c.its_schc_packet.fields c.its_schc_packet.payload_from (record { fields = c.matching.fields; payload_from = c.matching.payload_from }) c.its_schc_packet.is_packet split in
@@ -97,7 +97,7 @@ first_or_rest : {X : Type 0} → (x : X) (xs : List X) (y : X) → Contains (x �
 first_or_rest x xs y (zero, bound, same) = inl same
 first_or_rest x xs y (suc k, bound, same) = inr (k, omega arith, same)
 
--- where there is no shortest form, there is none
+-- where there is no shortest SCHC packet, there is none
 pub shortest-none : (iids : Iids) (direction : Direction) (packet : List ℕ) (rules : List Listed) → shortest iids direction packet rules ≡ None → (other : Listed) → Contains rules other → schc_packet_by iids direction packet other ≡ None
 shortest-none iids direction packet [] e other (k, bound, same) = absurd (omega arith)
 shortest-none iids direction packet (listed ∷ rules) e other among =
@@ -107,7 +107,7 @@ shortest-none iids direction packet (listed ∷ rules) e other among =
       | inr rest ↦ shortest-none iids direction packet rules both.1 other rest
     ]
 
--- the form is of one of the rules, and no other form is shorter, or as short with a lower RuleID
+-- the SCHC packet is of one of the rules, and no other SCHC packet is shorter, or as short with a lower RuleID
 pub record IsShortest (iids : Iids) (direction : Direction) (packet : List ℕ) (rules : List Listed) (f : SchcPacketData) : Type 0 where
   pub listed : Listed
   pub among : Contains rules listed
@@ -120,11 +120,11 @@ is_same iids direction packet listed f g a b = let both : Some f ≡ Some g = sy
 itself : (f g : SchcPacketData) → f ≡ g → IsNoLonger f.rule_id f.bits g.rule_id g.bits
 itself f g e = subst (λ (g : SchcPacketData). IsNoLonger f.rule_id f.bits g.rule_id g.bits) e (inr (refl, omega arith))
 
--- the RuleID of a form is its rule's
-pub form-id : (iids : Iids) (direction : Direction) (packet : List ℕ) (listed : Listed) (f : SchcPacketData) → schc_packet_by iids direction packet listed ≡ Some f → f.rule_id ≡ listed.rule.id
-form-id iids direction packet listed f e = ap (λ (f : SchcPacketData). f.rule_id) (form-parts iids direction packet listed f e).is
+-- the RuleID of an SCHC packet is its rule's
+pub schc_packet-id : (iids : Iids) (direction : Direction) (packet : List ℕ) (listed : Listed) (f : SchcPacketData) → schc_packet_by iids direction packet listed ≡ Some f → f.rule_id ≡ listed.rule.id
+schc_packet-id iids direction packet listed f e = ap (λ (f : SchcPacketData). f.rule_id) (schc_packet-parts iids direction packet listed f e).is
 
--- the first form comes before the shortest of the rest
+-- the first SCHC packet comes before the shortest of the rest
 first-least : (iids : Iids) (direction : Direction) (packet : List ℕ) (listed : Listed) (rules : List Listed) (f g : SchcPacketData) → schc_packet_by iids direction packet listed ≡ Some f → IsShortest iids direction packet rules g → ComesFirst (candidate_of f) (candidate_of g) → IsShortest iids direction packet (listed ∷ rules) f
 first-least iids direction packet listed rules f g e rest first =
     record {
@@ -139,7 +139,7 @@ first-least iids direction packet listed rules f g e rest first =
           ];
     }
 
--- the shortest of the rest comes before the first form
+-- the shortest of the rest comes before the first SCHC packet
 later-least : (iids : Iids) (direction : Direction) (packet : List ℕ) (listed : Listed) (rules : List Listed) (f g : SchcPacketData) → schc_packet_by iids direction packet listed ≡ Some f → IsShortest iids direction packet rules g → ComesFirst (candidate_of g) (candidate_of f) → IsShortest iids direction packet (listed ∷ rules) g
 later-least iids direction packet listed rules f g e rest first =
     record {
@@ -155,7 +155,7 @@ later-least iids direction packet listed rules f g e rest first =
           ];
     }
 
--- no form of the first rule
+-- no SCHC packet of the first rule
 rest-least : (iids : Iids) (direction : Direction) (packet : List ℕ) (listed : Listed) (rules : List Listed) (g : SchcPacketData) → schc_packet_by iids direction packet listed ≡ None → IsShortest iids direction packet rules g → IsShortest iids direction packet (listed ∷ rules) g
 rest-least iids direction packet listed rules g e rest =
     record {
@@ -172,7 +172,7 @@ rest-least iids direction packet listed rules g e rest =
           ];
     }
 
--- no form of the rest
+-- no SCHC packet of the rest
 only-least : (iids : Iids) (direction : Direction) (packet : List ℕ) (listed : Listed) (rules : List Listed) (f : SchcPacketData) → schc_packet_by iids direction packet listed ≡ Some f → shortest iids direction packet rules ≡ None → IsShortest iids direction packet (listed ∷ rules) f
 only-least iids direction packet listed rules f e none =
     record {
@@ -213,20 +213,20 @@ shortest-least iids direction packet (listed ∷ rules) f e =
     next-least iids direction packet listed rules (schc_packet_by iids direction packet listed) (shortest iids direction packet rules) f refl refl
     (λ g s. shortest-least iids direction packet rules g s) e
 
--- the shortest form is chosen, and the packet as it is where there is none
+-- the shortest SCHC packet is chosen, and the packet as it is where there is none
 pub chosen-by : (edition : EditionData) (iids : Iids) (direction : Direction) (packet : List ℕ) (o : Option SchcPacketData) → AreBytes packet → shortest iids direction packet edition.rules ≡ o → IsChosen edition iids direction packet (schc_packet_or_whole packet o).rule_id (schc_packet_or_whole packet o).bits
 chosen-by edition iids direction packet None bytes e =
     by_none (λ other bits c.
-    let both : None ≡ Some (record { rule_id = other.rule.id; bits = bits }) = sym (shortest-none iids direction packet edition.rules e other c.listing) ∙ candidate-form edition iids direction packet other bits c in
+    let both : None ≡ Some (record { rule_id = other.rule.id; bits = bits }) = sym (shortest-none iids direction packet edition.rules e other c.listing) ∙ candidate-schc_packet edition iids direction packet other bits c in
     absurd (cc))
 chosen-by edition iids direction packet (Some f) bytes e =
     let least : IsShortest iids direction packet edition.rules f = shortest-least iids direction packet edition.rules f e in
-    let found : IsCandidate edition iids direction packet least.listed f.bits = form-candidate edition iids direction packet least.listed f bytes least.among least.schc_packet in
-    let id : f.rule_id ≡ least.listed.rule.id = form-id iids direction packet least.listed f least.schc_packet in
+    let found : IsCandidate edition iids direction packet least.listed f.bits = schc_packet-candidate edition iids direction packet least.listed f bytes least.among least.schc_packet in
+    let id : f.rule_id ≡ least.listed.rule.id = schc_packet-id iids direction packet least.listed f least.schc_packet in
     subst (λ id. IsChosen edition iids direction packet id f.bits) (sym id)
     (by_rule least.listed f.bits found (λ other bits c.
     subst (λ id. IsNoLonger id f.bits other.rule.id bits) id
-    (least.least other (record { rule_id = other.rule.id; bits = bits }) c.listing (candidate-form edition iids direction packet other bits c))))
+    (least.least other (record { rule_id = other.rule.id; bits = bits }) c.listing (candidate-schc_packet edition iids direction packet other bits c))))
 
 -- a packet is written under the rule that is chosen
 pub packed-chosen : PacksChosen

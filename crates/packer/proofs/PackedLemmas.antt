@@ -18,18 +18,18 @@ use Rattle.packer.specs.declared.packing.Packed.{Packed}
 
 -- an SCHC packet begins with its RuleID in 8 bits
 abbrev pub BeginsWithId : Packed → Type 0
-BeginsWithId form = form.bits ≡ number_bits 8 form.rule_id ++ drop 8 form.bits
+BeginsWithId schc_packet = schc_packet.bits ≡ number_bits 8 schc_packet.rule_id ++ drop 8 schc_packet.bits
 
 -- and so do the bits that are written under one rule
 abbrev Begins : SchcPacketData → Type 0
-Begins form = form.bits ≡ number_bits 8 form.rule_id ++ drop 8 form.bits
+Begins schc_packet = schc_packet.bits ≡ number_bits 8 schc_packet.rule_id ++ drop 8 schc_packet.bits
 
 begins-from : (id : ℕ) (rest : List Bool) → number_bits 8 id ++ rest ≡ number_bits 8 id ++ drop 8 (number_bits 8 id ++ rest)
 begins-from id rest = ap (λ bits. number_bits 8 id ++ bits) (sym (drop_at (number_bits 8 id) rest 8 (length-number_bits 8 id)))
 
-if-begins : (b : Bool) (form : SchcPacketData) → Begins form → IfSome (cond b (Some form) None) Begins
-if-begins true form h = h
-if-begins false form h = tt
+if-begins : (b : Bool) (schc_packet : SchcPacketData) → Begins schc_packet → IfSome (cond b (Some schc_packet) None) Begins
+if-begins true schc_packet h = h
+if-begins false schc_packet h = tt
 
 matched-begins : (rule : RuleData) (iids : Iids) (way : Direction) (packet : List ℕ) (split : Option SplitData) → IfSome (matching_schc_packet rule iids way packet split) Begins
 matched-begins rule iids way packet None = tt
@@ -46,14 +46,14 @@ schc_packet_by-begins iids way packet listed =
     live-begins listed.live (matching_schc_packet listed.rule iids way packet (split_of (stack_of listed.rule) way packet))
     (matched-begins listed.rule iids way packet (split_of (stack_of listed.rule) way packet))
 
-either-begins : (b : Bool) (form later : SchcPacketData) → Begins form → Begins later → IfSome (cond b (Some form) (Some later)) Begins
-either-begins true form later h k = h
-either-begins false form later h k = k
+either-begins : (b : Bool) (schc_packet later : SchcPacketData) → Begins schc_packet → Begins later → IfSome (cond b (Some schc_packet) (Some later)) Begins
+either-begins true schc_packet later h k = h
+either-begins false schc_packet later h k = k
 
 shorter-begins : (these those : Option SchcPacketData) → IfSome these Begins → IfSome those Begins → IfSome (shorter these those) Begins
 shorter-begins None those h k = k
-shorter-begins (Some form) None h k = h
-shorter-begins (Some form) (Some later) h k = either-begins (is_preferred (candidate_of form) (candidate_of later)) form later h k
+shorter-begins (Some schc_packet) None h k = h
+shorter-begins (Some schc_packet) (Some later) h k = either-begins (is_preferred (candidate_of schc_packet) (candidate_of later)) schc_packet later h k
 
 shortest-begins : (iids : Iids) (way : Direction) (packet : List ℕ) (rules : List Listed) → IfSome (shortest iids way packet rules) Begins
 shortest-begins iids way packet [] = tt
@@ -62,7 +62,7 @@ shortest-begins iids way packet (listed ∷ later) =
 
 whole-begins : (packet : List ℕ) (o : Option SchcPacketData) → IfSome o Begins → Begins (schc_packet_or_whole packet o)
 whole-begins packet None h = begins-from uncompressed_port (octets packet)
-whole-begins packet (Some form) h = h
+whole-begins packet (Some schc_packet) h = h
 
 -- what is written begins with its RuleID
 pub packed-begins : (edition : EditionData) (iids : Iids) (way : Direction) (packet : List ℕ) → BeginsWithId (packed edition iids way packet)

@@ -33,11 +33,11 @@ use Rattle.packer.specs.declared.choosing.Candidate.{Candidate}
 use Rattle.packer.specs.Packets.{PacketOf, split_of, computed_over}
 use Rattle.packer.specs.Packing.{SchcPacketData, schc_packet_under, matching_schc_packet, schc_packet_by, candidate_of, candidate_by, candidate_under}
 use Rattle.packer.specs.Searching.{IsComputedFor, CanBeTried}
-use Rattle.packer.proofs.BoundLemmas.{IsShort, residue-short}
+use Rattle.packer.proofs.writing.BoundLemmas.{IsShort, residue-short}
 use Rattle.packer.proofs.CoverLemmas.{some_passes}
 use Rattle.packer.proofs.HeadersLemmas.{size_after-below, from-within}
 use Rattle.packer.proofs.SplitLemmas.{split_of-packet}
-use Rattle.packer.proofs.UnpackedLemmas.{found-listed}
+use Rattle.packer.proofs.reading.UnpackedLemmas.{found-listed}
 
 restored_same : (iids : Iids) (a b : Computed) (name : FieldName) (action : Action) (value : List Bool) → a.payload_length ≡ b.payload_length → a.udp_length ≡ b.udp_length → ((same_name name UdpChecksum && is_compute action) ≡ true → a.checksum ≡ b.checksum) → restored_holds iids a name action value ≡ restored_holds iids b name action value
 restored_same iids a b IpPayloadLength Compute value p u c = rw p refl

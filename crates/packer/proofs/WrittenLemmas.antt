@@ -16,7 +16,7 @@ use Rattle.packer.specs.Schc.IsChosen.{by_rule, by_none}
 use Rattle.packer.specs.Packing.{packed}
 use Rattle.packer.specs.Laws.{IsSound, AgreeOn, IsReadAs, ReadsWhatWasWritten}
 use Rattle.packer.proofs.ChosenLemmas.{packed-chosen}
-use Rattle.packer.proofs.UnpackedLemmas.{listed-found, id-compressed, IsReadUnder, read-written, read-whole}
+use Rattle.packer.proofs.reading.UnpackedLemmas.{listed-found, id-compressed, IsReadUnder, read-written, read-whole}
 
 same_listed : (these listed : Listed) → Some these ≡ Some listed → these ≡ listed
 same_listed these listed e = cc

@@ -20,7 +20,7 @@ use Rattle.rule_model.specs.Residue.{value_of, WidthHolds}
 use Rattle.editions.specs.declared.listed.Listed.{Listed}
 use Rattle.editions.specs.Data.{EditionData, lookup}
 use Rattle.ip_udp_fields.specs.Fields.{at_name}
-use Rattle.ip_udp_fields.specs.Join.{contents, other_number}
+use Rattle.ip_udp_fields.specs.Join.{value_refusals, other_number}
 use Rattle.coap_fields.specs.Join.{message_refusals, message_from}
 use Rattle.decompress.specs.Stands.{Stands}
 use Rattle.packer.specs.Ordering.{message_fields}
@@ -39,7 +39,7 @@ pub record AreRestored (rule : RuleData) (direction : Direction) (fields : List 
 -- what is wrong with the headers: the version, with UDP the next header, the number of bytes after the IPv6 header, and the
 -- lengths
 abbrev pub header_tests : Stack → List FieldValue → ℕ → List (Bool × UnpackFault)
-header_tests of fields size = map (λ condition. (condition.0, wrong_field condition.1)) (contents of fields size)
+header_tests of fields size = map (λ condition. (condition.0, wrong_field condition.1)) (value_refusals of fields size)
 
 -- the headers in front of a CoAP message: the version is 6, and the next header is 17
 abbrev pub front_tests : List FieldValue → List (Bool × JoinFault)

@@ -25,7 +25,7 @@ use Rattle.ip_udp_fields.specs.Fields.{at_name}
 use Rattle.ip_udp_fields.specs.Join.{other_number, too_many, header_bits}
 use Rattle.ip_udp_fields.specs.Checksum.{checksum_of}
 use Rattle.coap_fields.specs.Join.{gaps, message_from}
-use Rattle.coap_fields.specs.Join.{contents as message_contents}
+use Rattle.coap_fields.specs.Join.{value_refusals as message_value_refusals}
 use Rattle.decompress.specs.Reading.{restore_at}
 use Rattle.packer.specs.UnpackedData.{UnpackedData}
 use Rattle.ip_udp_fields.specs.Fields.{has_ipv6_header}
@@ -79,7 +79,7 @@ number_faults _ fields = other_number fields IpVersion 6 ∷ other_number fields
 -- with CoAP (RFC 7252, section 3): the version is 1, the token length at most 8, the token is there exactly where its length is
 -- above 0, and has that length; and the positions of each option, in ascending number, count from 1 without a gap
 abbrev pub message_faults : Stack → List FieldValue → List (Bool × JoinFault)
-message_faults stack.IpUdpCoap fields = message_contents (message_fields fields) ++ gaps 0 0 (message_fields fields)
+message_faults stack.IpUdpCoap fields = message_value_refusals (message_fields fields) ++ gaps 0 0 (message_fields fields)
 message_faults _ fields = []
 
 -- at most 65,535 bytes follow the IPv6 header, and each length of the headers is their number

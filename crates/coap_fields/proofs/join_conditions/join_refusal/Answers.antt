@@ -1,5 +1,5 @@
 use Rattle.std.proofs.Common.{sym, ◌∙◌}
-use Rattle.coap_fields.proofs.JoinRefusalLemmas.{refused-presence, refused-order, refused-contents, refused-gaps}
+use Rattle.coap_fields.proofs.JoinRefusalLemmas.{refused-presence, refused-order, refused-values, refused-gaps}
 use Rattle.coap_fields.proofs.join_conditions.join_refusal.Goals as goal
 
 pub returns-in-Some : goal.returns-in-Some
@@ -11,7 +11,7 @@ returns-in-Some-order_fault c =
 
 pub returns-in-Some-content_fault : goal.returns-in-Some-content_fault
 returns-in-Some-content_fault c =
-    sym (refused-contents c.args.fields.now c.in-Some-content_fault.fault (sym c.in-None.ensures) (sym c.in-None-order_fault.ensures) (sym c.in-Some-content_fault.ensures))
+    sym (refused-values c.args.fields.now c.in-Some-content_fault.fault (sym c.in-None.ensures) (sym c.in-None-order_fault.ensures) (sym c.in-Some-content_fault.ensures))
 
 pub returns-in-None-content_fault : goal.returns-in-None-content_fault
 returns-in-None-content_fault c =

@@ -1,5 +1,5 @@
 use Rattle.std.proofs.Common.{sym, ◌∙◌}
-use Rattle.coap_fields.proofs.SizeLemmas.{wrong-presence, wrong-standing, wrong-contents, wrong-gaps}
+use Rattle.coap_fields.proofs.SizeLemmas.{wrong-presence, wrong-standing, wrong-values, wrong-gaps}
 use Rattle.coap_fields.proofs.join_conditions.message_fault.Goals as goal
 
 pub returns-in-Some : goal.returns-in-Some
@@ -11,7 +11,7 @@ returns-in-Some-standing_fault c =
 
 pub returns-in-Some-content_fault : goal.returns-in-Some-content_fault
 returns-in-Some-content_fault c =
-    sym (wrong-contents c.args.fields.now c.in-Some-content_fault.fault (sym c.in-None.ensures) (sym c.in-None-standing_fault.ensures) (sym c.in-Some-content_fault.ensures))
+    sym (wrong-values c.args.fields.now c.in-Some-content_fault.fault (sym c.in-None.ensures) (sym c.in-None-standing_fault.ensures) (sym c.in-Some-content_fault.ensures))
 
 pub returns-in-None-content_fault : goal.returns-in-None-content_fault
 returns-in-None-content_fault c =

@@ -1,5 +1,5 @@
 use Rattle.std.proofs.Common.{sym, ◌∙◌}
-use Rattle.ip_udp_fields.proofs.JoinRefusalLemmas.{join_refusal-presence, join_refusal-order, join_refusal-contents}
+use Rattle.ip_udp_fields.proofs.JoinRefusalLemmas.{join_refusal-presence, join_refusal-order, join_refusal-values}
 use Rattle.ip_udp_fields.proofs.joining.join_refusal.Goals as goal
 
 pub returns-in-Some : goal.returns-in-Some
@@ -11,4 +11,4 @@ returns-in-Some-order_fault c =
 
 pub returns-in-None-order_fault : goal.returns-in-None-order_fault
 returns-in-None-order_fault c =
-    c.content_fault.ensures ∙ sym (join_refusal-contents c.args.stack c.args.direction c.args.fields.now c.args.size (rw c.fields_in_packet_order.ensures at (sym c.in-None.ensures)) (sym c.in-None-order_fault.ensures))
+    c.content_fault.ensures ∙ sym (join_refusal-values c.args.stack c.args.direction c.args.fields.now c.args.size (rw c.fields_in_packet_order.ensures at (sym c.in-None.ensures)) (sym c.in-None-order_fault.ensures))

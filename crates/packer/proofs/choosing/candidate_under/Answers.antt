@@ -4,7 +4,7 @@ use Rattle.rule_model.specs.SplitData.{SplitData}
 use Rattle.rule_model.specs.Findings.{IsAdmitted}
 use Rattle.rule_model.specs.Tests.{does_match}
 use Rattle.packer.proofs.TriedLemmas.{match-same, tried-none, tried-some}
-use Rattle.packer.proofs.UnpackedLemmas.{found-listed}
+use Rattle.packer.proofs.reading.UnpackedLemmas.{found-listed}
 use Rattle.packer.proofs.choosing.candidate_under.Goals as goal
 
 pub returns-then-not-matches : goal.returns-then-not-matches

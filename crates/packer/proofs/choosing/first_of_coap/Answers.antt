@@ -5,9 +5,9 @@ use Rattle.coap_fields.specs.Reading.{message_in}
 use Rattle.packer.specs.Packets.{with_message, split_of}
 use Rattle.packer.specs.Packing.{candidate_under, smallest_of}
 use Rattle.packer.specs.Searching.{IsSplitFarEnough}
-use Rattle.packer.proofs.CoapHeadersLemmas.{headers-there}
-use Rattle.packer.proofs.SplitsLemmas.{split-fields, where-none, where-some}
-use Rattle.packer.proofs.SuspectLemmas.{can-be-tried, coap-empty, coap-suspects, far-coap, far-udp, no-suspects}
+use Rattle.packer.proofs.coap.CoapHeadersLemmas.{headers-there}
+use Rattle.packer.proofs.writing.SplitsLemmas.{split-fields, where-none, where-some}
+use Rattle.packer.proofs.writing.SuspectLemmas.{can-be-tried, coap-empty, coap-suspects, far-coap, far-udp, no-suspects}
 use Rattle.packer.proofs.choosing.first_of_coap.Goals as goal
 
 pub returns-then-is_empty-clause-first : goal.returns-then-is_empty-clause-first

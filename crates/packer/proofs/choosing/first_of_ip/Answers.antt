@@ -2,8 +2,8 @@ use Rattle.std.proofs.Common.{◌≡◌, Some, sym, subst}
 use Rattle.schc_ids.specs.declared.names.Stack.TheVariants as stack
 use Rattle.rule_model.specs.SplitData.{SplitData}
 use Rattle.packer.specs.Packets.{split_of}
-use Rattle.packer.proofs.SplitsLemmas.{next-header-width, split-fields}
-use Rattle.packer.proofs.SuspectLemmas.{can-be-tried, computed-ip}
+use Rattle.packer.proofs.writing.SplitsLemmas.{next-header-width, split-fields}
+use Rattle.packer.proofs.writing.SuspectLemmas.{can-be-tried, computed-ip}
 use Rattle.packer.proofs.choosing.first_of_ip.Goals as goal
 
 pub key_value-requires : goal.key_value-requires

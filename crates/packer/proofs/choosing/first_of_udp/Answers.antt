@@ -6,9 +6,9 @@ use Rattle.editions.specs.Suspects.{key_value, suspects}
 use Rattle.packer.specs.Packets.{split_of}
 use Rattle.packer.specs.Packing.{candidate_under, smaller, smallest_of}
 use Rattle.packer.specs.Searching.{IsSplitFarEnough, suspects_of}
-use Rattle.packer.proofs.FirstLemmas.{smallest-append}
-use Rattle.packer.proofs.SplitsLemmas.{port-width, split-fields, where-none, where-some}
-use Rattle.packer.proofs.SuspectLemmas.{can-be-tried, computed-udp, far-ip, no-udp-suspects, some-suspects}
+use Rattle.packer.proofs.writing.FirstLemmas.{smallest-append}
+use Rattle.packer.proofs.writing.SplitsLemmas.{port-width, split-fields, where-none, where-some}
+use Rattle.packer.proofs.writing.SuspectLemmas.{can-be-tried, computed-udp, far-ip, no-udp-suspects, some-suspects}
 use Rattle.packer.proofs.choosing.first_of_udp.Goals as goal
 
 pub returns-then-not-branch-clause-first : goal.returns-then-not-branch-clause-first

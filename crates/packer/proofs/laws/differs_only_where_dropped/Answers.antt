@@ -1,4 +1,4 @@
-use Rattle.packer.proofs.DifferLemmas.{differs_only_where_dropped}
+use Rattle.packer.proofs.reading.DifferLemmas.{differs_only_where_dropped}
 use Rattle.packer.proofs.laws.differs_only_where_dropped.Goals as goal
 
 pub returns : goal.returns

@@ -1,4 +1,4 @@
-use Rattle.packer.proofs.OnePacketLemmas.{one_restored_packet}
+use Rattle.packer.proofs.reading.OnePacketLemmas.{one_restored_packet}
 use Rattle.packer.proofs.laws.one_restored_packet.Goals as goal
 
 pub returns : goal.returns

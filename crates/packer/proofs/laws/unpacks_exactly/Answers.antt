@@ -1,4 +1,4 @@
-use Rattle.packer.proofs.UnpackedLemmas.{unpacks_exactly}
+use Rattle.packer.proofs.reading.UnpackedLemmas.{unpacks_exactly}
 use Rattle.packer.proofs.laws.unpacks_exactly.Goals as goal
 
 pub returns : goal.returns

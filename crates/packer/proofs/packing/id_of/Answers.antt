@@ -1,6 +1,6 @@
 use Rattle.std.proofs.Common.{◌∙◌, ap, subst, sym, ◌<◌}
 use Rattle.rule_model.specs.Data.{RuleData}
-use Rattle.packer.proofs.SchcPacketLemmas.{id-small}
+use Rattle.packer.proofs.writing.SchcPacketLemmas.{id-small}
 use Rattle.packer.proofs.packing.id_of.Goals as goal
 
 pub returns-clause-small : goal.returns-clause-small

@@ -1,7 +1,7 @@
 use Rattle.std.proofs.Common.{◌≡◌, arith, sym, ◌∙◌, subst, Option, IfOk}
 use Rattle.schc_bits.proofs.Octets.{AreBytes-from_each}
 use Rattle.packer.specs.Packing.{SchcPacketData, schc_packet_or_whole}
-use Rattle.packer.proofs.SuspectLemmas.{none-shortest}
+use Rattle.packer.proofs.writing.SuspectLemmas.{none-shortest}
 use Rattle.packer.proofs.packing.schc_packet_of.Goals as goal
 
 pub returns-in-None : goal.returns-in-None

@@ -2,9 +2,9 @@ use Rattle.std.proofs.Common.{subst, sym, ◌≤◌, length}
 use Rattle.rule_model.specs.SplitData.{SplitData}
 use Rattle.rule_model.specs.Cover.{stack_of}
 use Rattle.rule_model.specs.Residue.{IsSized}
-use Rattle.packer.proofs.SchcPacketLemmas.{with_id, with_more}
+use Rattle.packer.proofs.writing.SchcPacketLemmas.{with_id, with_more}
 use Rattle.packer.proofs.HeadersLemmas.{from-within}
-use Rattle.packer.proofs.SizedFieldsLemmas.{sized-packet}
+use Rattle.packer.proofs.writing.SizedFieldsLemmas.{sized-packet}
 use Rattle.packer.proofs.packing.schc_packet_under.Goals as goal
 
 pub residue-requires : goal.residue-requires

@@ -1,5 +1,5 @@
 use Rattle.std.proofs.Common.{arith}
-use Rattle.packer.proofs.SchcPacketLemmas.{with_id, with_more}
+use Rattle.packer.proofs.writing.SchcPacketLemmas.{with_id, with_more}
 use Rattle.packer.proofs.packing.whole_schc_packet.Goals as goal
 
 pub invariant_of-result : goal.invariant_of-result

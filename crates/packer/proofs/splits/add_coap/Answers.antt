@@ -1,6 +1,6 @@
 use Rattle.std.proofs.Common.{arith}
 use Rattle.packer.proofs.HeadersLemmas.{size_after-below}
-use Rattle.packer.proofs.SplitsLemmas.{behind-within}
+use Rattle.packer.proofs.writing.SplitsLemmas.{behind-within}
 use Rattle.packer.proofs.splits.add_coap.Goals as goal
 
 pub overflow_add-split : goal.overflow_add-split

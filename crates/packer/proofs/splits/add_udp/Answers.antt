@@ -2,7 +2,7 @@ use Rattle.std.proofs.Common.{◌≡◌, ap, Some, sym, ◌∙◌, subst}
 use Rattle.schc_ids.specs.declared.names.Stack.TheVariants as stack
 use Rattle.rule_model.specs.SplitData.{SplitData}
 use Rattle.packer.specs.Packets.{split_of}
-use Rattle.packer.proofs.SplitsLemmas.{split-fields, udp-split, refused-none}
+use Rattle.packer.proofs.writing.SplitsLemmas.{split-fields, udp-split, refused-none}
 use Rattle.packer.proofs.splits.add_udp.Goals as goal
 
 pub extend_to_udp-requires-clause-ipv6 : goal.extend_to_udp-requires-clause-ipv6

@@ -1,6 +1,6 @@
 use Rattle.std.proofs.Common.{sym, ◌∙◌}
 use Rattle.schc_ids.specs.declared.names.Stack.TheVariants as stack
-use Rattle.packer.proofs.SplitsLemmas.{fields-split, refused-none}
+use Rattle.packer.proofs.writing.SplitsLemmas.{fields-split, refused-none}
 use Rattle.packer.proofs.splits.split_ip.Goals as goal
 
 pub returns-in-Ok : goal.returns-in-Ok

@@ -1,7 +1,7 @@
 use Rattle.std.proofs.Common.{sym, subst, drop}
 use Rattle.decompress.specs.Data.{RestoredData}
 use Rattle.packer.specs.Rebuilding.{AreRestored}
-use Rattle.packer.proofs.MadeLemmas.{AreRestored-from_Stands}
+use Rattle.packer.proofs.rebuilt.MadeLemmas.{AreRestored-from_Stands}
 use Rattle.packer.proofs.unpacking.read_by.Goals as goal
 
 pub read_payload-requires : goal.read_payload-requires

@@ -1,6 +1,6 @@
 use Rattle.std.proofs.Common.{arith}
-use Rattle.packer.proofs.UnpackedLemmas.{options-whole}
-use Rattle.packer.proofs.SaysLemmas.{IfOk-all}
+use Rattle.packer.proofs.reading.UnpackedLemmas.{options-whole}
+use Rattle.packer.proofs.reading.SaysLemmas.{IfOk-all}
 use Rattle.packer.proofs.unpacking.read_under.Goals as goal
 
 pub returns-then-id-from-clause-options : goal.returns-then-id-from-clause-options

@@ -1,5 +1,5 @@
 use Rattle.std.proofs.lemmas.Result.{IfErr-weaker}
-use Rattle.packer.proofs.SaysLemmas.{says-result, none-read, bound-result}
+use Rattle.packer.proofs.reading.SaysLemmas.{says-result, none-read, bound-result}
 use Rattle.packer.proofs.unpacking.unpack.Goals as goal
 
 pub returns-clause-says : goal.returns-clause-says
