@@ -3,3 +3,4 @@ pub mod DigitsLemmas
 pub mod TextsLemmas
 pub mod SpeltLemmas
 pub mod WrittenLemmas
+pub mod DevicesLemmas

@@ -1,36 +1,17 @@
 -- The layout of the files of the commands: contexts and work.
-use Rattle.std.specs.Prelude.{ℕ, ◌+◌, ◌^◌, ◌&&◌, ◌==◌, nat_le, not, Bool, true, if◌then◌else◌, List, [], ◌∷◌, length, Option, Some, None, codes}
+use Rattle.std.specs.Prelude.{ℕ, ◌&&◌, ◌==◌, nat_le, not, Bool, true, if◌then◌else◌, List, [], ◌∷◌, length, Option, Some, None, codes}
 use Rattle.std.specs.List.{list_any}
 use Rattle.serde_json.specs.Data.{Data}
 use Rattle.serde_json.specs.Find.{get, as_object}
-use Rattle.schc_ids.specs.Limits.{min_mtu, max_mtu, max_devices}
-use Rattle.schc_ids.specs.Params.{default_params}
+use Rattle.schc_ids.specs.Limits.{max_devices}
 use Rattle.rule_model.specs.declared.raw.DeviceLine.{DeviceLine}
 use Rattle.rule_model.specs.RawData.{RawEditionData}
 use Rattle.rule_json.specs.Data.{ContextData, WorkData}
-use Rattle.rule_json.specs.Values.{◌>>=◌, number_below, member_in, default_or, list_of}
+use Rattle.rule_json.specs.Values.{◌>>=◌, member_in, default_or, list_of}
 use Rattle.rule_json.specs.Words.{direction_of}
 use Rattle.rule_json.specs.Digits.{iid_of, packet_of}
 use Rattle.rule_json.specs.Layout.{text_in, edition_in}
-
--- the most bytes of a frame, which are 15 to 242
-unfoldable pub mtu_number : Data → Option ℕ
-mtu_number d = do
-  mtu ← number_below (max_mtu + 1) d
-  if nat_le min_mtu mtu then Some mtu else None
-
--- `mtu` of a device, the highest where nothing is said
-unfoldable pub mtu_in : Data → Option ℕ
-mtu_in d = default_or max_mtu mtu_number (get (codes "mtu") d)
-
--- a device
-unfoldable pub device_in : Data → Option DeviceLine
-device_in d = do
-  number ← member_in (codes "device") (number_below (2 ^ 16)) d
-  dev ← member_in (codes "dev-iid") (text_in iid_of) d
-  app ← member_in (codes "app-iid") (text_in iid_of) d
-  mtu ← mtu_in d
-  Some (record { number = number; params = record (default_params (record { dev = dev; app = app })) { mtu = mtu } })
+use Rattle.rule_json.specs.Devices.{device_in}
 
 -- no device has the number of a later one
 abbrev pub have_own_numbers : List DeviceLine → Bool

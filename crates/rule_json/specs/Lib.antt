@@ -3,6 +3,7 @@ pub mod Values
 pub mod Words
 pub mod Digits
 pub mod Layout
+pub mod Devices
 pub mod Files
 pub mod Texts
 pub mod Written

@@ -1,10 +1,12 @@
 -- The words of rule text: identifiers in the manner of RFC 9363.
-use Rattle.std.specs.Prelude.{ℕ, Bool, if◌then◌else◌, List, Option, Some, None, codes}
+use Rattle.std.specs.Prelude.{ℕ, Bool, true, false, if◌then◌else◌, List, Option, Some, None, codes}
 use Rattle.std.specs.Str.{bytes_eq}
 use Rattle.schc_ids.specs.declared.ends.Direction.{Direction}
 use Rattle.schc_ids.specs.declared.ends.Direction.TheVariants as way
 use Rattle.schc_ids.specs.declared.ends.DirInd.{DirInd}
 use Rattle.schc_ids.specs.declared.ends.DirInd.TheVariants as indicator
+use Rattle.schc_ids.specs.declared.ends.LastTile.{LastTile}
+use Rattle.schc_ids.specs.declared.ends.LastTile.TheVariants as last_tile
 use Rattle.rule_model.specs.declared.rule.Length.{Length}
 use Rattle.rule_model.specs.declared.rule.Length.TheVariants.{Variable, TokenLength}
 use Rattle.rule_model.specs.declared.rule.Operator.{Operator}
@@ -56,6 +58,20 @@ action_of text =
     else if bytes_eq text (codes "cda-compute") then Some action.Compute
     else if bytes_eq text (codes "cda-deviid") then Some action.DevIid
     else if bytes_eq text (codes "cda-appiid") then Some action.AppIid
+    else None
+
+-- whether fragments are answered
+unfoldable pub acked_of : List ℕ → Option Bool
+acked_of text =
+    if bytes_eq text (codes "acked") then Some true
+    else if bytes_eq text (codes "noack") then Some false
+    else None
+
+-- where the last tile goes (RFC 8724, section 8.4.3)
+unfoldable pub last_tile_of : List ℕ → Option LastTile
+last_tile_of text =
+    if bytes_eq text (codes "all1") then Some last_tile.InAll1
+    else if bytes_eq text (codes "regular") then Some last_tile.InRegular
     else None
 
 -- the words back

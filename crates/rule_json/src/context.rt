@@ -5,24 +5,19 @@ ghost use Rattle.std.specs.List.{list_any};
 ghost use Rattle.std.specs.Option.{option_map};
 ghost use Rattle.serde_json.specs.View.{view};
 ghost use Rattle.rule_json.specs.Answers.{Gives};
-ghost use Rattle.rule_json.specs.Values.{number_below, default_or, list_of};
+ghost use Rattle.rule_json.specs.Values.{default_or, list_of};
 ghost use Rattle.rule_json.specs.Files.{
-  mtu_number,
-  mtu_in,
-  device_in,
   have_own_numbers,
   devices_in,
   editions_in,
   context_in,
 };
 
-use crate::digits::identifier_in;
 use crate::fault::JsonFault;
-use crate::values::{FromJson, list_from, small_number};
+use crate::values::{FromJson, list_from};
 use rule_model::{DeviceLine, RawEdition};
 use schc_bits::ItemList;
-use schc_ids::limits::{MAX_DEVICES, MAX_MTU, is_mtu};
-use schc_ids::{EndParams, Iids};
+use schc_ids::limits::MAX_DEVICES;
 use serde_json::Value;
 use std::alloc::Global;
 use std::marker::Model;
@@ -40,48 +35,6 @@ impl Model for ContextFile {
     ghost Value = { ContextData };
 
     ghost view = { λ c. record { devices = c.devices.items; editions = c.editions.items } };
-}
-
-/// The most bytes of a frame that the value is: 15 to 242.
-#[tactic(auto, unfolding(crate::specs::Files::mtu_number, crate::specs::Values::number_below))]
-fn mtu_number(value: &Value) -> Option<u16>
-    ensures { result ≡ mtu_number (view value.now) }
-{
-    let mtu = small_number(value)?;
-    if is_mtu(mtu) { Some(mtu) } else { None }
-}
-
-/// The most bytes of a device's frames.
-#[tactic(auto, unfolding(crate::specs::Files::mtu_in))]
-fn mtu_in(device: &Value) -> Option<u16>
-    ensures { result ≡ mtu_in (view device.now) }
-{
-    match device.get("mtu") {
-        Some(mtu) => mtu_number(mtu),
-        None => Some(MAX_MTU),
-    }
-}
-
-/// The device that the value is.
-#[tactic(auto, unfolding(crate::specs::Files::device_in))]
-fn device_in(value: &Value) -> Option<DeviceLine>
-    ensures { result ≡ device_in (view value.now) }
-{
-    let number = small_number(value.get("device")?)?;
-    let dev = identifier_in(value, "dev-iid")?;
-    let app = identifier_in(value, "app-iid")?;
-    let mtu = mtu_in(value)?;
-    let mut params = EndParams::with_defaults(Iids { dev, app });
-    params.mtu = mtu;
-    Some(DeviceLine { number, params })
-}
-
-impl FromJson for DeviceLine {
-    ghost layout = { device_in };
-
-    fn from_json(_alloc: Global, value: &Value) -> Result<DeviceLine, JsonFault> {
-        device_in(value).ok_or(JsonFault::NotLayout)
-    }
 }
 
 /// Whether one of the devices has the number.

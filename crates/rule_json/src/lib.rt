@@ -2,6 +2,7 @@
 #![tactic(auto)]
 
 mod context;
+mod device;
 mod digits;
 mod entry;
 mod fault;
@@ -17,5 +18,6 @@ pub use context::ContextFile;
 pub use fault::JsonFault;
 pub use reading::{read_context, read_edition, read_work};
 pub use rule_model::{DeviceLine, RawEdition, RawRule};
+pub use words::{acked_of, last_tile_of};
 pub use work::{Packet, WorkFile};
 pub use writing::write_edition;

@@ -2,7 +2,7 @@
 
 use super::*;
 use schc_bits::Octets;
-use schc_ids::Direction;
+use schc_ids::{Direction, EndParams, Iids, LastTile, TimerTicks};
 use std::alloc::Global;
 use std::test::Fail;
 
@@ -286,6 +286,89 @@ fn contexts(rt: HostRuntime) {
     for (text, fault) in cases {
         assert!(rt; is_no_context(alloc, text, fault));
     }
+}
+
+/// The parameters of a context's only device, whose text has these members beside its number and
+/// its identifiers; none where the text is outside the layout.
+fn params_with(alloc: Global, members: &str) -> Result<Option<EndParams>, Fail> {
+    let text = format!(in alloc;
+        "{{\"devices\":[{{\"device\":7,\"dev-iid\":\"0000000000000001\",\"app-iid\":\"0000000000000002\"{members}}}]}}"
+    )?;
+    match read_context(alloc, text.as_bytes()) {
+        Ok(context) => Ok(
+            context
+                .devices
+                .as_slice()
+                .first()
+                .map(|device| device.params),
+        ),
+        Err(_) => Ok(None),
+    }
+}
+
+#[test]
+fn device_members(rt: HostRuntime) -> Result<(), Fail> {
+    let iids = Iids { dev: 1, app: 2 };
+    let cases: [(&str, u16, bool, LastTile, (u32, u32, u32, u32)); 4] = [
+        ("", 242, true, LastTile::InAll1, (10, 40, 40, 100)),
+        (",\"mtu\":15", 15, true, LastTile::InAll1, (10, 40, 40, 100)),
+        (
+            ",\"mode\":\"noack\",\"last\":\"regular\",\"timers\":[1,2,3,1000000]",
+            242,
+            false,
+            LastTile::InRegular,
+            (1, 2, 3, 1000000),
+        ),
+        (
+            ",\"timers\":[1000000,3,2,1],\"last\":\"all1\",\"mode\":\"acked\",\"mtu\":242",
+            242,
+            true,
+            LastTile::InAll1,
+            (1000000, 3, 2, 1),
+        ),
+    ];
+    for (members, mtu, acked, last, (retransmission, inactivity, linger, quiet)) in cases {
+        let ticks = TimerTicks {
+            retransmission,
+            inactivity,
+            linger,
+            quiet,
+        };
+        let expected = EndParams {
+            iids,
+            mtu,
+            acked,
+            last,
+            ticks,
+        };
+        assert_eq!(rt; params_with(rt.alloc(), members)?, Some(expected));
+    }
+    Ok(())
+}
+
+#[test]
+fn device_members_outside_the_layout(rt: HostRuntime) -> Result<(), Fail> {
+    let cases: [&str; 15] = [
+        ",\"mode\":\"ack\"",
+        ",\"mode\":\"Acked\"",
+        ",\"mode\":null",
+        ",\"mode\":true",
+        ",\"last\":\"x\"",
+        ",\"last\":\"\"",
+        ",\"last\":1",
+        ",\"timers\":[1,2,3]",
+        ",\"timers\":[1,2,3,4,5]",
+        ",\"timers\":[0,2,3,4]",
+        ",\"timers\":[1,2,3,1000001]",
+        ",\"timers\":[1,2,3.0,4]",
+        ",\"timers\":[1,2,\"3\",4]",
+        ",\"timers\":{}",
+        ",\"timers\":null",
+    ];
+    for members in cases {
+        assert_eq!(rt; params_with(rt.alloc(), members)?, None);
+    }
+    Ok(())
 }
 
 /// Whether the text is work of this direction with these two packets.

@@ -2,6 +2,8 @@
 
 ghost use Rattle.std.specs.Prelude.{◌≡◌, Some};
 ghost use Rattle.rule_json.specs.Words.{
+  acked_of,
+  last_tile_of,
   direction_of,
   indicator_of,
   length_word,
@@ -13,7 +15,7 @@ ghost use Rattle.rule_json.specs.Words.{
 };
 
 use rule_model::{Action, Length, Operator};
-use schc_ids::{DirInd, Direction};
+use schc_ids::{DirInd, Direction, LastTile};
 
 /// The direction of packets that the word names.
 #[tactic(auto, unfolding(crate::specs::Words::direction_of))]
@@ -79,6 +81,35 @@ pub(crate) fn action_of(text: &str) -> Option<Action>
         "cda-deviid" => Some(Action::DevIid),
         "cda-appiid" => Some(Action::AppIid),
         _ => None,
+    }
+}
+
+/// Whether fragments are answered, as a device's `mode` says: `acked`, or `noack`.
+#[tactic(auto, unfolding(crate::specs::Words::acked_of))]
+pub fn acked_of(word: &[u8]) -> Option<bool>
+    ensures { result ≡ acked_of word.now }
+{
+    if word == b"acked".as_slice() {
+        Some(true)
+    } else if word == b"noack".as_slice() {
+        Some(false)
+    } else {
+        None
+    }
+}
+
+/// Where the last tile goes, as a device's `last` says: `all1`, or `regular` (RFC 8724 section
+/// 8.4.3).
+#[tactic(auto, unfolding(crate::specs::Words::last_tile_of))]
+pub fn last_tile_of(word: &[u8]) -> Option<LastTile>
+    ensures { result ≡ last_tile_of word.now }
+{
+    if word == b"all1".as_slice() {
+        Some(LastTile::InAll1)
+    } else if word == b"regular".as_slice() {
+        Some(LastTile::InRegular)
+    } else {
+        None
     }
 }
 

@@ -18,10 +18,13 @@ use Rattle.rule_model.specs.declared.raw.DeviceLine.{DeviceLine}
 use Rattle.rule_model.specs.RawData.{RawEditionData}
 use Rattle.rule_json.specs.Written.{edition_text}
 use Rattle.rule_json.specs.Texts.{edition_of}
+use Rattle.event_data.specs.declared.events.Target.{Target}
+use Rattle.event_data.specs.declared.events.Target.TheVariants as target
 use Rattle.event_data.specs.Events.{Event, Down, Slot, Deliver, Tick, Abort, Publish, Offer, Allow}
 use Rattle.script_lang.specs.Text.{is_space, words_of, is_numeral, number_of, packet_in, some_bytes}
-use Rattle.script_lang.specs.Grammar.{told_by, told_by_text, told_by_words, device_in, event_in, device_event, told_event, slot_event, hand_event, deliver_event, end_and_edition, offer_event, allow_event, role_of, direction_of, published_text, publication, is_passed_over}
-use Rattle.script_lang.specs.Spelling.{spelled, role_word, direction_word, IsDevice, ReadsBack}
+use Rattle.script_lang.specs.Grammar.{told_by, told_by_text, told_by_words, event_in, device_event, told_event, slot_event, abort_event, tick_event, hand_event, deliver_event, end_and_edition, offer_event, allow_event, role_of, target_of, direction_of, published_text, publication, is_passed_over}
+use Rattle.script_lang.specs.Devices.{device_in}
+use Rattle.script_lang.specs.Spelling.{spelled, role_word, target_word, direction_word, IsDevice, ReadsBack}
 use Rattle.script_lang.specs.declared.lines.Told.TheVariants.{Happens}
 use Rattle.script_lang.proofs.TextLemmas.{digits_model, list_all-all_ascii_digits, and-right}
 
@@ -54,6 +57,11 @@ without (b ∷ word) h = looked-at b word (is_space b) refl h (without word)
 role-without : (role : Role) → HasNoSpace (role_word role)
 role-without Device = without (codes "dev") refl
 role-without Gateway = without (codes "gw") refl
+
+target-without : (at : Target) → HasNoSpace (target_word at)
+target-without target.Device = without (codes "dev") refl
+target-without target.Gateway = without (codes "gw") refl
+target-without target.Both = without (codes "both") refl
 
 direction-without : (direction : Direction) → HasNoSpace (direction_word direction)
 direction-without way.Up = without (codes "up") refl
@@ -121,6 +129,11 @@ role-again : (role : Role) → role_of (role_word role) ≡ Some role
 role-again Device = refl
 role-again Gateway = refl
 
+target-again : (at : Target) → target_of (target_word at) ≡ Some at
+target-again target.Device = refl
+target-again target.Gateway = refl
+target-again target.Both = refl
+
 direction-again : (direction : Direction) → direction_of (direction_word direction) ≡ Some direction
 direction-again way.Up = refl
 direction-again way.Down = refl
@@ -158,6 +171,20 @@ slot-again devices n role d =
     (three-words (codes "slot") (decimal n) (role_word role) (without (codes "slot") refl) (decimal-without n (small-number d)) (role-without role))
     refl (rw (role-again role) refl)
 
+abort-again : (devices : List DeviceLine) (n : ℕ) (role : Role) → IsDevice devices n → told_by devices (spelled n (Abort role)) ≡ Some (Happens (record { device = n; event = Abort role }))
+unfolding spelled published_text device_in told_event abort_event
+abort-again devices n role d =
+    line-told devices _ (codes "abort") n (role_word role ∷ []) (Abort role) d refl refl
+    (three-words (codes "abort") (decimal n) (role_word role) (without (codes "abort") refl) (decimal-without n (small-number d)) (role-without role))
+    refl (rw (role-again role) refl)
+
+tick-again : (devices : List DeviceLine) (n : ℕ) (at : Target) → IsDevice devices n → told_by devices (spelled n (Tick at)) ≡ Some (Happens (record { device = n; event = Tick at }))
+unfolding spelled published_text device_in told_event tick_event
+tick-again devices n at d =
+    line-told devices _ (codes "tick") n (target_word at ∷ []) (Tick at) d refl refl
+    (three-words (codes "tick") (decimal n) (target_word at) (without (codes "tick") refl) (decimal-without n (small-number d)) (target-without at))
+    refl (rw (target-again at) refl)
+
 hand-again : (devices : List DeviceLine) (n : ℕ) (role : Role) (packet : List ℕ) → IsDevice devices n → IsBytes packet → packet ≢ [] → told_by devices (spelled n (Down role packet)) ≡ Some (Happens (record { device = n; event = Down role packet }))
 unfolding spelled published_text device_in told_event hand_event
 hand-again devices n role packet d bytes none =
@@ -194,8 +221,8 @@ pub reads-back : ReadsBack
 reads-back devices n (Down role packet) can = hand-again devices n role packet can.0 can.1 can.2
 reads-back devices n (Slot role) can = slot-again devices n role can
 reads-back devices n (Deliver direction place) can = deliver-again devices n direction place can.0 can.1
-reads-back devices n (Tick target) can = absurd can
-reads-back devices n (Abort role) can = absurd can
+reads-back devices n (Tick at) can = tick-again devices n at can
+reads-back devices n (Abort role) can = abort-again devices n role can
 reads-back devices n (Publish raw) can = publish-again devices n raw can.0 can.1
 reads-back devices n (Offer role number) can = offer-again devices n role number can.0 can.1
 reads-back devices n (Allow role number) can = allow-again devices n role number can.0 can.1

@@ -1,33 +1,36 @@
 -- What a line of a script tells: a device, an edition of rules that is published, or what happens to the device's two ends.
-use Rattle.std.specs.Prelude.{ℕ, ◌+◌, ◌^◌, ◌==◌, Bool, true, nat_le, if◌then◌else◌, List, [], ◌∷◌, take, drop, Option, Some, None, codes}
-use Rattle.std.specs.Option.{option_and_then, option_map}
+use Rattle.std.specs.Prelude.{ℕ, ◌^◌, ◌==◌, Bool, true, if◌then◌else◌, List, [], ◌∷◌, take, drop, Option, Some, None, codes}
+use Rattle.std.specs.Option.{option_map}
 use Rattle.std.specs.List.{list_any}
 use Rattle.std.specs.Str.{bytes_eq}
-use Rattle.schc_ids.specs.declared.ends.Iids.{Iids}
 use Rattle.schc_ids.specs.declared.ends.Role.{Role}
 use Rattle.schc_ids.specs.declared.ends.Role.TheVariants.{Device, Gateway}
 use Rattle.schc_ids.specs.declared.ends.Direction.{Direction}
 use Rattle.schc_ids.specs.declared.ends.Direction.TheVariants as way
-use Rattle.schc_ids.specs.Limits.{min_mtu, max_mtu}
-use Rattle.schc_ids.specs.Params.{default_params}
 use Rattle.rule_model.specs.declared.raw.DeviceLine.{DeviceLine}
 use Rattle.rule_json.specs.Texts.{edition_of}
-use Rattle.event_data.specs.Events.{Event, Down, Slot, Deliver, Publish, Offer, Allow}
-use Rattle.script_lang.specs.Text.{words_of, number_of, packet_in, iid_of}
+use Rattle.event_data.specs.declared.events.Target.{Target}
+use Rattle.event_data.specs.declared.events.Target.TheVariants as target
+use Rattle.event_data.specs.Events.{Event, Down, Slot, Deliver, Tick, Abort, Publish, Offer, Allow}
+use Rattle.script_lang.specs.Text.{◌>>=◌, words_of, number_of, packet_in}
+use Rattle.script_lang.specs.Devices.{device_in}
 use Rattle.script_lang.specs.ScriptData.{ScriptEventData}
 use Rattle.script_lang.specs.declared.lines.Told.{Told}
 use Rattle.script_lang.specs.declared.lines.Told.TheVariants.{Nothing, Declares, Happens}
-
--- a value from a value, where there is one
-infixl 10 ◌>>=◌
-abbrev pub ◌>>=◌ : {A B : Type 0} → Option A → (A → Option B) → Option B
-first >>= second = option_and_then second first
 
 -- the end that a word names
 abbrev pub role_of : List ℕ → Option Role
 role_of word =
     if bytes_eq word (codes "dev") then Some Device
     else if bytes_eq word (codes "gw") then Some Gateway
+    else None
+
+-- the ends at which a tick passes that a word names
+abbrev pub target_of : List ℕ → Option Target
+target_of word =
+    if bytes_eq word (codes "dev") then Some target.Device
+    else if bytes_eq word (codes "gw") then Some target.Gateway
+    else if bytes_eq word (codes "both") then Some target.Both
     else None
 
 -- the direction that a word names
@@ -37,48 +40,23 @@ direction_of word =
     else if bytes_eq word (codes "down") then Some way.Down
     else None
 
--- the number of bytes that an `mtu` says: 15 to 242
-unfoldable pub mtu_of : List ℕ → Option ℕ
-mtu_of word = do
-  mtu ← number_of (max_mtu + 1) word
-  if nat_le min_mtu mtu then Some mtu else None
-
--- the interface identifiers that two words spell
-unfoldable pub iids_of : List ℕ → List ℕ → Option Iids
-iids_of dev app = do
-  d ← iid_of dev
-  a ← iid_of app
-  Some (record { dev = d; app = a })
-
--- the device that `device N DEVIID APPIID` declares, with this MTU if one is given
-unfoldable pub declared_device : List ℕ → List ℕ → List ℕ → Option ℕ → Option DeviceLine
-declared_device number dev app None = do
-  n ← number_of (2 ^ 16) number
-  iids ← iids_of dev app
-  Some (record { number = n; params = default_params iids })
-declared_device number dev app (Some mtu) = do
-  n ← number_of (2 ^ 16) number
-  iids ← iids_of dev app
-  Some (record { number = n; params = record (default_params iids) { mtu = mtu } })
-
--- the device of `device N DEVIID APPIID mtu M`
-unfoldable pub device_with_mtu : List ℕ → List ℕ → List ℕ → List ℕ → List ℕ → Option DeviceLine
-device_with_mtu number dev app option mtu =
-    if bytes_eq option (codes "mtu") then (mtu_of mtu >>= λ m. declared_device number dev app (Some m)) else None
-
--- the device that a line of these words declares
-unfoldable pub device_in : List (List ℕ) → Option DeviceLine
-device_in (name ∷ number ∷ dev ∷ app ∷ []) =
-    if bytes_eq name (codes "device") then declared_device number dev app None else None
-device_in (name ∷ number ∷ dev ∷ app ∷ option ∷ mtu ∷ []) =
-    if bytes_eq name (codes "device") then device_with_mtu number dev app option mtu else None
-device_in words = None
-
 -- the event of `slot N E`, after its N
 unfoldable pub slot_event : List ℕ → Option Event
 slot_event end = do
   role ← role_of end
   Some (Slot role)
+
+-- the event of `abort N E`, after its N
+unfoldable pub abort_event : List ℕ → Option Event
+abort_event end = do
+  role ← role_of end
+  Some (Abort role)
+
+-- the event of `tick N dev|gw|both`, after its N
+unfoldable pub tick_event : List ℕ → Option Event
+tick_event ends = do
+  at ← target_of ends
+  Some (Tick at)
 
 -- the event of `hand N E HEX`, after its N
 unfoldable pub hand_event : List ℕ → List ℕ → Option Event
@@ -115,7 +93,11 @@ allow_event end edition = do
 
 -- the event that words tell: the name of what happens, and what follows the device's number
 unfoldable pub told_event : List ℕ → List (List ℕ) → Option Event
-told_event name (end ∷ []) = if bytes_eq name (codes "slot") then slot_event end else None
+told_event name (x ∷ []) =
+    if bytes_eq name (codes "slot") then slot_event x
+    else if bytes_eq name (codes "tick") then tick_event x
+    else if bytes_eq name (codes "abort") then abort_event x
+    else None
 told_event name (x ∷ y ∷ []) =
     if bytes_eq name (codes "hand") then hand_event x y
     else if bytes_eq name (codes "deliver") then deliver_event x y

@@ -9,6 +9,8 @@ use Rattle.schc_ids.specs.declared.ends.Direction.TheVariants as way
 use Rattle.rule_model.specs.declared.raw.DeviceLine.{DeviceLine}
 use Rattle.rule_json.specs.Written.{edition_text}
 use Rattle.rule_json.specs.Texts.{edition_of}
+use Rattle.event_data.specs.declared.events.Target.{Target}
+use Rattle.event_data.specs.declared.events.Target.TheVariants as target
 use Rattle.event_data.specs.Events.{Event, Down, Slot, Deliver, Tick, Abort, Publish, Offer, Allow}
 use Rattle.script_lang.specs.Grammar.{is_declared, told_by}
 use Rattle.script_lang.specs.declared.lines.Told.TheVariants.{Happens}
@@ -23,15 +25,21 @@ abbrev pub direction_word : Direction → List ℕ
 direction_word way.Up = codes "up"
 direction_word way.Down = codes "down"
 
--- the line of an event of the device with this number; no line has ticks, or sessions that are given up
+-- the word for the ends at which a tick passes
+abbrev pub target_word : Target → List ℕ
+target_word target.Device = codes "dev"
+target_word target.Gateway = codes "gw"
+target_word target.Both = codes "both"
+
+-- the line of an event of the device with this number
 unfoldable pub spelled : ℕ → Event → List ℕ
 spelled device (Down role packet) =
     codes "hand " ++ (decimal device ++ (codes " " ++ (role_word role ++ (codes " " ++ encode_lower packet))))
 spelled device (Slot role) = codes "slot " ++ (decimal device ++ (codes " " ++ role_word role))
 spelled device (Deliver direction place) =
     codes "deliver " ++ (decimal device ++ (codes " " ++ (direction_word direction ++ (codes " " ++ decimal place))))
-spelled device (Tick target) = []
-spelled device (Abort role) = []
+spelled device (Tick at) = codes "tick " ++ (decimal device ++ (codes " " ++ target_word at))
+spelled device (Abort role) = codes "abort " ++ (decimal device ++ (codes " " ++ role_word role))
 spelled device (Publish raw) = codes "publish " ++ edition_text raw
 spelled device (Offer role number) =
     codes "offer " ++ (decimal device ++ (codes " " ++ (role_word role ++ (codes " " ++ decimal number))))
@@ -49,8 +57,8 @@ abbrev pub CanBeSpelled : List DeviceLine → ℕ → Event → Type 0
 CanBeSpelled devices device (Down role packet) = IsDevice devices device × IsBytes packet × (packet ≢ [])
 CanBeSpelled devices device (Slot role) = IsDevice devices device
 CanBeSpelled devices device (Deliver direction place) = IsDevice devices device × (place < 2 ^ 64)
-CanBeSpelled devices device (Tick target) = ⊥
-CanBeSpelled devices device (Abort role) = ⊥
+CanBeSpelled devices device (Tick at) = IsDevice devices device
+CanBeSpelled devices device (Abort role) = IsDevice devices device
 CanBeSpelled devices device (Publish raw) = (device ≡ 0) × (edition_of (edition_text raw) ≡ Some raw)
 CanBeSpelled devices device (Offer role number) = IsDevice devices device × (number < 2 ^ 32)
 CanBeSpelled devices device (Allow role number) = IsDevice devices device × (number < 2 ^ 32)

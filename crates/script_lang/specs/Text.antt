@@ -8,6 +8,11 @@ use Rattle.std.specs.Int.{from_be_bytes}
 use mir.Syntax.{w64}
 use Rattle.hex.specs.Hex.{decode_of, decode_sized}
 
+-- a value from a value, where there is one
+infixl 10 ◌>>=◌
+abbrev pub ◌>>=◌ : {A B : Type 0} → Option A → (A → Option B) → Option B
+first >>= second = option_and_then second first
+
 -- the byte that ends a line
 abbrev pub is_line_feed : ℕ → Bool
 is_line_feed b = b == 10

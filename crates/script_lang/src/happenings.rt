@@ -4,11 +4,11 @@ ghost use Rattle.std.specs.Prelude.{◌≡◌, ◌==◌, map, IfOk, IfSome};
 ghost use Rattle.std.specs.Option.{option_map};
 ghost use Rattle.std.specs.List.{list_any};
 ghost use Rattle.event_data.specs.Events.{view_event, HandsBytes};
-ghost use Rattle.script_lang.specs.Grammar.{role_of, direction_of, slot_event, hand_event, deliver_event, end_and_edition, offer_event, allow_event, told_event, is_declared, device_event, event_in};
+ghost use Rattle.script_lang.specs.Grammar.{role_of, target_of, direction_of, slot_event, abort_event, tick_event, hand_event, deliver_event, end_and_edition, offer_event, allow_event, told_event, is_declared, device_event, event_in};
 
 use crate::scripts::ScriptEvent;
 use crate::text::{edition_number, number, packet, small_number};
-use event_data::WorldEvent;
+use event_data::{Target, WorldEvent};
 use rule_model::DeviceLine;
 use schc_bits::Octets;
 use schc_ids::{Direction, Role};
@@ -21,6 +21,20 @@ fn role(word: &[u8]) -> Option<Role>
         Some(Role::Device)
     } else if word == b"gw".as_slice() {
         Some(Role::Gateway)
+    } else {
+        None
+    }
+}
+
+fn target(word: &[u8]) -> Option<Target>
+    ensures { result ≡ target_of word.now }
+{
+    if word == b"dev".as_slice() {
+        Some(Target::Device)
+    } else if word == b"gw".as_slice() {
+        Some(Target::Gateway)
+    } else if word == b"both".as_slice() {
+        Some(Target::Both)
     } else {
         None
     }
@@ -45,6 +59,24 @@ fn slot_event(end: &[u8]) -> Option<WorldEvent>
     ensures in_range { IfSome result (λ event. HandsBytes (view_event event)) }
 {
     Some(WorldEvent::Slot(role(end)?))
+}
+
+/// The event of `abort N E`, after its N.
+#[tactic(auto, unfolding(crate::specs::Grammar::abort_event))]
+fn abort_event(end: &[u8]) -> Option<WorldEvent>
+    ensures event { option_map view_event result ≡ abort_event end.now }
+    ensures in_range { IfSome result (λ event. HandsBytes (view_event event)) }
+{
+    Some(WorldEvent::Abort(role(end)?))
+}
+
+/// The event of `tick N dev|gw|both`, after its N.
+#[tactic(auto, unfolding(crate::specs::Grammar::tick_event))]
+fn tick_event(ends: &[u8]) -> Option<WorldEvent>
+    ensures event { option_map view_event result ≡ tick_event ends.now }
+    ensures in_range { IfSome result (λ event. HandsBytes (view_event event)) }
+{
+    Some(WorldEvent::Tick(target(ends)?))
 }
 
 /// The event of `deliver N up|down K`, after its N.
@@ -120,9 +152,13 @@ fn told_event(alloc: Global, name: &[u8], words: &[&[u8]]) -> Result<Option<Worl
     ensures in_range { IfOk result (λ event. IfSome event (λ e. HandsBytes (view_event e))) }
 {
     match words {
-        [end] => {
+        [x] => {
             if name == b"slot".as_slice() {
-                Ok(slot_event(end))
+                Ok(slot_event(x))
+            } else if name == b"tick".as_slice() {
+                Ok(tick_event(x))
+            } else if name == b"abort".as_slice() {
+                Ok(abort_event(x))
             } else {
                 Ok(None)
             }

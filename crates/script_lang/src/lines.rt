@@ -3,7 +3,8 @@
 ghost use Rattle.std.specs.Prelude.{◌≡◌, ◌==◌, map, IfOk, IfSome};
 ghost use Rattle.std.specs.Option.{option_map};
 ghost use Rattle.event_data.specs.Events.{HandsBytes};
-ghost use Rattle.script_lang.specs.Grammar.{device_in, published_text, publication, is_passed_over, own_device, told_by_words, told_by_text, told_by};
+ghost use Rattle.script_lang.specs.Devices.{device_in};
+ghost use Rattle.script_lang.specs.Grammar.{published_text, publication, is_passed_over, own_device, told_by_words, told_by_text, told_by};
 ghost use Rattle.script_lang.specs.Parsing.{IsInRange};
 
 use crate::devices::device;
