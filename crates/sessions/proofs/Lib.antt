@@ -3,3 +3,13 @@ pub mod KeyLemmas
 pub mod ReadingLemmas
 pub mod StepLemmas
 pub mod PortLemmas
+pub mod SenderLemmas
+pub mod ReceiverLemmas
+pub mod MoveLemmas
+pub mod CallLemmas
+pub mod HearLemmas
+pub mod NextLemmas
+pub mod TickLemmas
+pub mod BeginLemmas
+pub mod NoteLemmas
+pub mod LawLemmas

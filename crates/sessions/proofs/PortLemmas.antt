@@ -1,10 +1,13 @@
 -- The keys of an end.
-use Rattle.std.specs.Prelude.{◌≡◌, ◌==◌, Bool, true, false, Some}
-use Rattle.std.proofs.Common.{refl}
+use Rattle.std.specs.Prelude.{ℕ, ◌≡◌, ◌==◌, Bool, true, false, Some}
+use Rattle.std.proofs.Common.{refl, subst}
 use Rattle.schc_ids.specs.Ends.{other_role}
 use Rattle.schc_ids.specs.declared.ends.Role.{Role}
 use Rattle.schc_ids.specs.declared.ends.Role.TheVariants.{Device, Gateway}
-use Rattle.lorawan_profile.specs.Ports.{sending_of}
+use Rattle.schc_ids.specs.declared.fragments.FragParams.{FragParams}
+use Rattle.lorawan_profile.specs.Ports.{sending_of, IsSent}
+use Rattle.lorawan_profile.specs.declared.ports.PortMeaning.{PortMeaning}
+use Rattle.lorawan_profile.specs.declared.ports.PortMeaning.TheVariants.{Answers}
 use Rattle.sessions.specs.Data.{in_key, receptions, pick}
 use Rattle.sessions.specs.Keys.{same_key, found, entry, without, put_in}
 use Rattle.sessions.specs.Reception.{Reception}
@@ -38,3 +41,7 @@ pub put_silent : (role : Role) (answering silent new : Reception) → put_in (in
 unfolding put_in without entry same_key
 put_silent Device answering silent new = refl
 put_silent Gateway answering silent new = refl
+
+-- the port of answers is that by which the end sends
+pub sent_answers : (role : Role) (port : ℕ) (means : PortMeaning) (params : FragParams) → means ≡ Answers params → IsSent role port means → sending_of role true ≡ (port, params)
+sent_answers role port means params e h = subst (IsSent role port) e h

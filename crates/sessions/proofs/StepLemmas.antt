@@ -20,7 +20,7 @@ use Rattle.sessions.specs.Session.{sender_left, session_moved, session_fired, fi
 use Rattle.sessions.specs.Steps.{fired_session}
 use Rattle.sessions.specs.declared.receivers.Receiver.{Receiver}
 use Rattle.sessions.specs.declared.senders.Sender.{Sender}
-use Rattle.sessions.specs.declared.table.Running.{Running}
+use Rattle.sessions.specs.declared.moves.Running.{Running}
 
 -- the timer runs where it should, after a step as before
 pub left_timed : (ticks : TimerTicks) (before after : SenderPhase) (left : Option ℕ) → is_armed left ≡ sender_timed before → is_armed (sender_left ticks before after left) ≡ sender_timed after

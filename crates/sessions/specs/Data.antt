@@ -11,7 +11,7 @@ use Rattle.sessions.specs.Receivers.{new_receiver}
 use Rattle.sessions.specs.Reception.{Reception}
 use Rattle.sessions.specs.Session.{Session}
 use Rattle.sessions.specs.declared.receivers.Receiver.{Receiver}
-use Rattle.sessions.specs.declared.table.Running.{Running}
+use Rattle.sessions.specs.declared.moves.Running.{Running}
 
 -- the end's role and parameters, the sessions that it sends and the receivers that it has, by their keys, and the number of the
 -- next session
@@ -62,9 +62,12 @@ new_sessions role params = record {
 }
 
 -- what is seen of a session that runs and of its timer
+abbrev pub shown : Running → Option ℕ → Session
+shown running left = record { number = running.number; sender = running.sender; left = left }
+
 abbrev pub session_of : Option Running → Option ℕ → Option Session
 session_of None left = None
-session_of (Some running) left = Some (record { number = running.number; sender = running.sender; left = left })
+session_of (Some running) left = Some (shown running left)
 
 -- what is seen of all that an end keeps
 abbrev pub seen : Role → EndParams → Option Running → Receiver → Receiver → ℕ → ClocksData → SessionsData

@@ -21,10 +21,10 @@ use Rattle.lorawan_profile.specs.declared.ports.PortMeaning.TheVariants.{Fragmen
 use Rattle.sessions.specs.Clocks.{ClocksData}
 use Rattle.sessions.specs.Keys.{Entry}
 use Rattle.sessions.specs.Receivers.{receiver_mode, receiver_phase}
-use Rattle.sessions.specs.Senders.{HasAnswer, sender_params, sender_mtu, sender_phase}
+use Rattle.sessions.specs.Senders.{sender_params, sender_mtu, sender_phase}
 use Rattle.sessions.specs.Session.{Session}
 use Rattle.sessions.specs.declared.receivers.Receiver.{Receiver}
-use Rattle.sessions.specs.declared.table.Running.{Running}
+use Rattle.sessions.specs.declared.moves.Running.{Running}
 
 -- fragments or their answers come by the port
 abbrev pub IsSessionMeaning : PortMeaning → Type 0
@@ -73,11 +73,6 @@ pub record IsTable (role : Role) (params : EndParams) (running : Option Running)
   pub sends : AreRunning role params running clocks.sending
   pub answers : IsReceiving role true answering clocks.answering
   pub listens : IsReceiving role false silent clocks.silent
-
--- the sessions can be asked what the message means
-abbrev pub Hears : List (Entry Session) → Message → Type 0
-Hears [] message = Unit {0}
-Hears (x ∷ xs) message = HasAnswer x.it.sender message × Hears xs message
 
 -- the other end sends by the port, with these parameters
 abbrev pub ComesBy : Role → ℕ → FragParams → Type 0

@@ -2,8 +2,10 @@ pub mod Clocks
 pub mod Data
 pub mod Holds
 pub mod Keys
+pub mod Laws
 pub mod Receivers
 pub mod Reception
 pub mod Senders
+pub mod Sends
 pub mod Session
 pub mod Steps

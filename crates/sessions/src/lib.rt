@@ -3,12 +3,14 @@
 //!
 //! The definitions have an end's sessions by key, which is the port: the senders and the receivers,
 //! each with the ticks that are left of its timer, and the number of the next session; and the step of
-//! each call. What is here of the calls: a sender and a receiver of whatever mode, the timers of an
-//! end, what is reported, and sessions of which none has begun. The calls by which sessions begin,
-//! take frames, give frames, let time pass and are given up aren't here yet.
+//! each call. The code has a sender and a receiver of whatever mode, the timers of an end, what is
+//! reported, and the calls by which sessions begin, give frames, take frames, let time pass and are
+//! given up.
 #![tactic(auto)]
 
 mod clocks;
+pub mod laws;
+mod moves;
 mod out;
 mod receivers;
 mod senders;
@@ -17,7 +19,8 @@ mod table;
 mod tests;
 
 pub use clocks::{Clock, Clocks, Due};
-pub use out::{SessionOut, answer_out, heard_note, heard_report, may_send, sent_report};
+pub use moves::Running;
+pub use out::{SessionOut, answer_out, heard_note, heard_report, sent_report};
 pub use receivers::Receiver;
 pub use senders::Sender;
-pub use table::{Running, Sessions, fire_session};
+pub use table::Sessions;

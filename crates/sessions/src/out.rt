@@ -1,9 +1,9 @@
 //! What an end gives of its sessions, and what it says of them.
 
-ghost use Rattle.std.specs.Prelude.{◌≡◌, ◌||◌, None};
+ghost use Rattle.std.specs.Prelude.{◌≡◌, None};
 ghost use Rattle.sessions.specs.Data.{in_key};
 ghost use Rattle.sessions.specs.Session.{sent_kind, heard_kind, heard_note, reported};
-ghost use Rattle.sessions.specs.Steps.{is_closing, is_sending, given};
+ghost use Rattle.sessions.specs.Steps.{given};
 
 use event_data::{EmitKind, Frame};
 use lorawan_profile::sending;
@@ -28,16 +28,6 @@ pub fn answer_out(role: Role, acked: bool, bytes: Octets) -> SessionOut
         frame: Frame { port, bytes },
         kind: EmitKind::Answers,
         report: None,
-    }
-}
-
-/// Whether a message may be due where the sender stands.
-pub fn may_send(phase: SenderPhase) -> bool
-    ensures { result ≡ is_closing phase || is_sending phase }
-{
-    match phase {
-        SenderPhase::Sending | SenderPhase::Closing => true,
-        SenderPhase::Waiting | SenderPhase::Quiet => false,
     }
 }
 

@@ -5,6 +5,7 @@ ghost use Rattle.schc_bits.specs.Bits.{octets};
 ghost use Rattle.schc_ids.specs.Fragments.{params_of};
 ghost use Rattle.frag_wire.specs.Layouts.{payload_in};
 ghost use Rattle.frag_wire.specs.Spells.{Spells};
+ghost use Rattle.reassembly.specs.Joining.{reassembly_bits};
 ghost use Rattle.sessions.specs.Receivers.{new_receiver, receiver_mode, receiver_phase, receiver_taken, receiver_previewed, receiver_idled, receiver_lapsed, receiver_due, receiver_answered};
 ghost use Rattle.sessions.specs.Holds.{receiver_timed};
 ghost use Rattle.sessions.specs.Reception.{receiver_fired};
@@ -61,7 +62,7 @@ impl Receiver {
     /// that passes.
     ///
     /// # Errors
-    /// Want of memory.
+    /// Want of memory, where there are bits to give.
     #[tactic(auto, unfolding(crate::specs::Receivers::receiver_previewed))]
     pub fn preview(
         &self,
@@ -71,6 +72,8 @@ impl Receiver {
     ) -> Result<Option<Bits>, AllocError>
         requires read { Spells (params_of (receiver_mode self.now)) Side.Fragments message.now (payload_in message.now (octets bytes.now)) bytes.now }
         ensures joined { IfOk result (λ joined. joined ≡ receiver_previewed message.now (payload_in message.now (octets bytes.now)) self.now) }
+        ensures memory { OnErr result (IsSome (receiver_previewed message.now (payload_in message.now (octets bytes.now)) self.now)) }
+        ensures room { IfOk result (λ joined. IfSome joined (λ bits. length bits ≤ reassembly_bits)) }
     {
         match self {
             Receiver::NoAck(receiver) => receiver.preview(alloc, message, bytes),
