@@ -1,0 +1,11 @@
+pub mod Earned
+pub mod Events
+pub mod Fresh
+pub mod Held
+pub mod Honest
+pub mod Lane
+pub mod Laws
+pub mod Rounds
+pub mod Runs
+pub mod Step
+pub mod Waiting
