@@ -1,5 +1,9 @@
+pub mod FormLemmas
 pub mod FrameLemmas
+pub mod KeptLemmas
 pub mod OfferLemmas
+pub mod PartLemmas
+pub mod SlotLemmas
 pub mod StepLemmas
 pub mod ReadBackLemmas
 pub mod TakenLemmas

@@ -1,8 +1,9 @@
 -- What a frame gives back of a packet that an edition wrote.
-use Rattle.std.proofs.Common.{◌≡◌, ℕ, ◌==◌, ◌<◌, Bool, true, false, not, ◌&&◌, ◌||◌, cond, List, ◌++◌, take, Option, Some, None, Ok, nat_lt, refl, sym, ap, subst, ◌∙◌, arith}
+use Rattle.std.proofs.Common.{◌≡◌, ℕ, ◌==◌, ◌<◌, Bool, true, false, not, ◌&&◌, ◌||◌, cond, ◌≤◌, List, ◌++◌, length, take, drop, Option, Some, None, Ok, nat_lt, refl, sym, ap, subst, ◌∙◌, arith}
 use Rattle.std.proofs.lemmas.List.Elements.{All-contains}
+use Rattle.std.proofs.lemmas.List.{append_assoc}
 use Rattle.std.proofs.lemmas.Bool.{lt-ltb, ltb-true, ltb-false}
-use Rattle.schc_bits.specs.Bits.{number_bits, bits_value, octets, AreBytes}
+use Rattle.schc_bits.specs.Bits.{number_bits, bits_value, AreBytes}
 use Rattle.schc_bits.proofs.NumberBits.{bits_value-number_bits}
 use Rattle.schc_ids.specs.declared.ends.Direction.{Direction}
 use Rattle.schc_ids.specs.declared.ends.Role.{Role}
@@ -76,7 +77,7 @@ whole-below id true b c d e true f h = omega (arith, ltb-true id 224 (sym f))
 whole-below id true b c d e false f h = absurd cc
 whole-below id false b c d e g f h = absurd cc
 
-packed-below : (edition : EditionData) (iids : Iids) (way : Direction) (packet : List ℕ) → IsSound edition → AreBytes packet → (packed edition iids way packet).rule_id < 256
+pub packed-below : (edition : EditionData) (iids : Iids) (way : Direction) (packet : List ℕ) → IsSound edition → AreBytes packet → (packed edition iids way packet).rule_id < 256
 unfolding is_whole
 packed-below edition iids way packet sound bytes =
     whole-below (packed edition iids way packet).rule_id _ _ _ _ _ (nat_lt (packed edition iids way packet).rule_id 224) refl (packed-is_whole edition iids way packet sound bytes)
@@ -91,17 +92,46 @@ pub packed-known : (edition : EditionData) (iids : Iids) (way : Direction) (pack
 packed-known edition iids way packet sound bytes =
     chosen-known edition iids way packet (packed edition iids way packet).rule_id (packed edition iids way packet).bits sound.ascending (packed-chosen edition iids way packet sound bytes)
 
--- a reader that agrees on the RuleID reads the frame as the packet that the other end restores
+-- What was written, with zero bits behind it: a frame that carries it whole has up to 7 of them, and so has what a session joins.
+
+-- a reader that agrees on the RuleID reads the bits as the packet that the other end restores
+pub reads-bits : (writer reader : EditionData) (iids : Iids) (way : Direction) (packet : List ℕ) (bits padding : List Bool)
+    → bits ≡ (packed writer iids way packet).bits ++ padding → length padding ≤ 7 → IsSound writer → IsSound reader → AreBytes packet → has_ipv6_header packet ≡ true
+    → AgreeOn writer reader (packed writer iids way packet).rule_id → IsReadAs writer reader iids way packet (packed writer iids way packet).rule_id bits
+reads-bits writer reader iids way packet bits padding are few written read bytes ipv6 agree =
+    subst (λ b. IsReadAs writer reader iids way packet (packed writer iids way packet).rule_id b) (sym are)
+    (reads_what_was_written writer reader iids way packet padding written read bytes ipv6 few agree)
+
+-- they begin with the RuleID
+written-id : (writer : EditionData) (iids : Iids) (way : Direction) (packet : List ℕ) (padding : List Bool) → IsSound writer → AreBytes packet
+    → bits_value (take 8 ((packed writer iids way packet).bits ++ padding)) ≡ (packed writer iids way packet).rule_id
+written-id writer iids way packet padding sound bytes =
+    let p = packed writer iids way packet in
+    ap (λ b. bits_value (take 8 (b ++ padding))) (packed-begins writer iids way packet)
+    ∙ ap (λ b. bits_value (take 8 b)) (append_assoc (number_bits 8 p.rule_id) (drop 8 p.bits) padding)
+    ∙ ap bits_value (id-bits p.rule_id (drop 8 p.bits ++ padding))
+    ∙ bits_value-number_bits 8 p.rule_id (packed-below writer iids way packet sound bytes)
+
+-- so a reader that reads them knows it
+pub knows-bits : (writer reader : EditionData) (iids : Iids) (way : Direction) (packet : List ℕ) (bits padding : List Bool) (read : UnpackedData)
+    → bits ≡ (packed writer iids way packet).bits ++ padding → IsSound writer → AreBytes packet → unpacked reader iids way bits ≡ Ok read
+    → IsKnown reader (packed writer iids way packet).rule_id
+knows-bits writer reader iids way packet bits padding read are sound bytes given =
+    subst (IsKnown reader) (ap (λ b. bits_value (take 8 b)) are ∙ written-id writer iids way packet padding sound bytes)
+    (read-known reader iids way bits read given)
+
+-- the same of a frame
+frame-bits : (writer : EditionData) (iids : Iids) (way : Direction) (packet : List ℕ)
+    → carried (frame_of (packed writer iids way packet)) ≡ (packed writer iids way packet).bits ++ frame_padding (packed writer iids way packet)
+frame-bits writer iids way packet = carried-frame_of (packed writer iids way packet) (packed-begins writer iids way packet)
+
 pub reads-frame : (writer reader : EditionData) (iids : Iids) (way : Direction) (packet : List ℕ) → IsSound writer → IsSound reader → AreBytes packet → has_ipv6_header packet ≡ true → AgreeOn writer reader (packed writer iids way packet).rule_id → IsReadAs writer reader iids way packet (packed writer iids way packet).rule_id (carried (frame_of (packed writer iids way packet)))
 reads-frame writer reader iids way packet written read bytes ipv6 agree =
     let p = packed writer iids way packet in
-    subst (λ bits. IsReadAs writer reader iids way packet p.rule_id bits) (sym (carried-frame_of p (packed-begins writer iids way packet)))
-    (reads_what_was_written writer reader iids way packet (frame_padding p) written read bytes ipv6 (length-frame_padding p) agree)
+    reads-bits writer reader iids way packet (carried (frame_of p)) (frame_padding p) (frame-bits writer iids way packet) (length-frame_padding p)
+    written read bytes ipv6 agree
 
--- a reader that reads the frame knows its RuleID
 pub reader-knows : (writer reader : EditionData) (iids : Iids) (way : Direction) (packet : List ℕ) (read : UnpackedData) → IsSound writer → AreBytes packet → unpacked reader iids way (carried (frame_of (packed writer iids way packet))) ≡ Ok read → IsKnown reader (packed writer iids way packet).rule_id
 reader-knows writer reader iids way packet read sound bytes given =
     let p = packed writer iids way packet in
-    subst (IsKnown reader)
-    (ap bits_value (id-bits p.rule_id (octets (frame_of p).bytes)) ∙ bits_value-number_bits 8 p.rule_id (packed-below writer iids way packet sound bytes))
-    (read-known reader iids way (carried (frame_of p)) read given)
+    knows-bits writer reader iids way packet (carried (frame_of p)) (frame_padding p) read (frame-bits writer iids way packet) sound bytes given

@@ -1,10 +1,13 @@
 -- How long a packet is that a frame carries.
-use Rattle.std.proofs.Common.{◌≡◌, ℕ, ◌+◌, ◌*◌, ◌≤◌, Bool, List, ◌++◌, length, Ok, IfSome, arith, ap, subst, inl, inr}
+use Rattle.std.proofs.Common.{◌≡◌, ℕ, ◌≤◌, Bool, List, length, Option, Some, None, Result, Ok, Err, IfOk, IfSome, arith, ap, subst, inl, inr}
 use Rattle.std.proofs.lemmas.List.{length-append}
 use Rattle.schc_bits.specs.Bits.{number_bits, octets}
 use Rattle.schc_bits.proofs.NumberBits.{length-number_bits}
 use Rattle.schc_bits.proofs.Octets.{length-octets}
 use Rattle.schc_ids.specs.Limits.{uncompressed_port}
+use Rattle.schc_ids.specs.declared.faults.UnpackFault.{UnpackFault}
+use Rattle.schc_ids.specs.declared.notes.Note.{Note}
+use Rattle.schc_ids.specs.declared.notes.Report.{Report}
 use Rattle.schc_ids.specs.declared.ends.Direction.{Direction}
 use Rattle.schc_ids.specs.declared.ends.Iids.{Iids}
 use Rattle.rule_model.specs.Cover.{stack_of}
@@ -15,8 +18,9 @@ use Rattle.packer.proofs.HeadersLemmas.{size_after-below}
 use Rattle.packer.proofs.TriedLemmas.{ipv6-of}
 use Rattle.event_data.specs.Records.{FrameData}
 use Rattle.event_data.specs.declared.outcomes.Taken.{Taken}
-use Rattle.end_core.specs.Events.{IsWithin}
-use Rattle.end_core.specs.End.{carried, taken_whole}
+use Rattle.event_data.specs.Outcomes.{IsNote}
+use Rattle.end_core.specs.Events.{IsAnswer, IsWithin, max_ipv6_packet}
+use Rattle.end_core.specs.End.{carried, up_of, taken_part}
 
 -- a packet that no rule compresses has no more bytes than the frame
 whole-within : (frame : FrameData) (packet : List ℕ) → DecodesWhole (carried frame) packet → length packet ≤ length frame.bytes
@@ -43,7 +47,30 @@ pub bits_within : {edition : EditionData} {iids : Iids} {way : Direction} {bits 
 bits_within {edition} {iids} {way} {bits} {packet} {id} frame e d =
     decodes_within edition iids way frame packet id (subst (λ b. Decodes edition iids way b packet id) e d)
 
+pub read_within : (edition : EditionData) (iids : Iids) (way : Direction) {bits : List Bool} {read : Result UnpackedData UnpackFault} {unpacked : UnpackedData} (frame : FrameData)
+    → bits ≡ carried frame → IfOk read (λ u. Decodes edition iids way bits u.packet u.rule_id) → read ≡ Ok unpacked → IsWithin frame unpacked.packet
+read_within edition iids way {bits} {read} {unpacked} frame e says is =
+    bits_within frame e (subst (λ r. IfOk r (λ u. Decodes edition iids way bits u.packet u.rule_id)) is says)
+
 -- and so is what is handed up
-pub up_within : (frame : FrameData) (number : ℕ) (read : UnpackedData) (taken : Taken) → taken ≡ taken_whole number (Ok read) → IsWithin frame read.packet → IfSome taken.up (λ up. IsWithin frame up.packet)
-unfolding taken_whole
-up_within frame number read taken e h = rw e h
+pub up_within : (frame : FrameData) (number : ℕ) (read : UnpackedData) (report : Option Report) (note : Note) (taken : Taken)
+    → taken ≡ record { up = Some (up_of number read); report = report; note = note } → IsWithin frame read.packet
+    → IfSome taken.up (λ up. IsWithin frame up.packet)
+up_within frame number read report note taken e h = rw e h
+
+-- what a frame makes whole has at most 65,575 bytes
+pub part_within : (frame : FrameData) (number : ℕ) (said : Note × Option Report) (joined : Option (Result UnpackedData UnpackFault))
+    → IfSome joined (λ read. IfOk read (λ unpacked. length unpacked.packet ≤ max_ipv6_packet))
+    → IfSome (taken_part number said joined).up (λ up. IsWithin frame up.packet)
+unfolding taken_part
+part_within frame number said None h = tt
+part_within frame number said (Some (Ok unpacked)) h = inl h
+part_within frame number said (Some (Err fault)) h = tt
+
+-- and the answer is never for want of memory
+pub part_note : (number : ℕ) (said : Note × Option Report) (joined : Option (Result UnpackedData UnpackFault)) → IsNote said.0
+    → IfSome joined IsAnswer → IsNote (taken_part number said joined).note
+unfolding taken_part
+part_note number said None h k = h
+part_note number said (Some (Ok unpacked)) h k = h
+part_note number said (Some (Err fault)) h k = k

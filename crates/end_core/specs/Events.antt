@@ -1,5 +1,8 @@
 -- What can happen to one end, and what it answers.
 use Rattle.std.specs.Prelude.{ℕ, ◌≤◌, ◌⊎◌, Bool, List, length, Option, Result, Ok, Err}
+use Rattle.schc_ids.specs.declared.faults.UnpackFault.{UnpackFault}
+use Rattle.schc_ids.specs.declared.notes.Cause.TheVariants.{Unpack}
+use Rattle.schc_ids.specs.declared.notes.Note.TheVariants as note
 use Rattle.schc_ids.specs.declared.notes.Report.{Report}
 use Rattle.editions.specs.Data.{EditionData}
 use Rattle.event_data.specs.Records.{FrameData}
@@ -44,6 +47,11 @@ IsWithin frame packet = (length packet ≤ max_ipv6_packet) ⊎ (length packet �
 abbrev pub IsHandAnswer : Result Accepted DownFault → Type 0
 IsHandAnswer (Ok accepted) = Unit {0}
 IsHandAnswer (Err fault) = IsRefusal fault
+
+-- what is read from bits: a packet, or a fault, and want of memory is none
+abbrev pub IsAnswer : {A : Type 0} → Result A UnpackFault → Type 0
+IsAnswer (Ok unpacked) = Unit {0}
+IsAnswer (Err fault) = IsNote (note.Refused (Unpack fault))
 
 -- the outcomes that an event can have: want of memory is none
 abbrev pub IsOutcomeOf : EndEvent → Outcome → Type 0

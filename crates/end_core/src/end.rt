@@ -1,20 +1,36 @@
 //! The end.
 
-ghost use Rattle.std.specs.Prelude.{◌≡◌, ◌<◌, ◌≤◌, ◌⊎◌, true, length, Ok, Err, IfOk, IfErr, IfSome, OnErr};
+ghost use Rattle.std.specs.Prelude.{◌≡◌, ◌*◌, ◌<◌, ◌≤◌, ◌⊎◌, ◌++◌, true, length, slice_get, Some, None, Ok, Err, IfOk, IfErr, IfSome, IsSome, IsSomeAnd, OnErr};
+ghost use Rattle.schc_bits.specs.Bits.{number_bits};
 ghost use Rattle.ip_udp_fields.specs.Fields.{has_ipv6_header};
-ghost use Rattle.schc_ids.specs.Limits.{max_packet, max_mtu};
+ghost use Rattle.schc_ids.specs.Ends.{taken_direction};
+ghost use Rattle.schc_ids.specs.Limits.{max_packet, max_mtu, min_session_bits};
 ghost use Rattle.schc_ids.specs.Params.{IsParams};
 ghost use Rattle.lorawan_profile.specs.Ports.{meaning_of};
-ghost use Rattle.end_core.specs.Data.{IsEnd};
-ghost use Rattle.end_core.specs.Events.{IsOutcomeOf, IsWithin, Take, Took};
+ghost use Rattle.packer.specs.Schc.{Decodes};
+ghost use Rattle.sessions.specs.Steps as session;
+ghost use Rattle.end_core.specs.Data.{after_id, form_room};
+ghost use Rattle.end_core.specs.Events.{IsOutcomeOf, IsWithin, IsAnswer, max_ipv6_packet, Take, Took};
 ghost use Rattle.end_core.specs.End.{
+  Begins,
+  slot_from,
+  first_turn,
+  emitted_out,
+  assembly_of,
+  MayWant,
   new_end,
   form_of,
+  refusal,
   down_step,
   slot_step,
+  read_bits,
   read,
+  joined,
+  part_step,
   refused,
+  up_of,
   taken_whole,
+  taken_part,
   take_step,
   tick_step,
   abort_step,
@@ -29,8 +45,10 @@ use event_data::{Accepted, DownFault, EmitKind, Emitted, Frame, HandUp, Offered,
 use ip_udp_fields::has_ipv6_header;
 use lorawan_profile::{PortMeaning, meaning};
 use packer::{Packed, Unpacked, pack, unpack};
+use schc_bits::Bits;
 use schc_ids::limits::{MAX_PACKET, QUEUE_ROOM};
 use schc_ids::{Cause, EndParams, Note, Report, Role, UnpackFault};
+use sessions::{SessionOut, Sessions};
 use std::alloc::{AllocError, Global};
 use std::collections::VecDeque;
 use std::marker::Model;
@@ -38,7 +56,8 @@ use std::mem;
 use std::sync::Arc;
 
 /// One end of the link: its role and parameters, the edition of rules that it knows, the one that it
-/// writes with, and the packets that wait to be sent, the first first.
+/// writes with, the packets that wait to be sent, the first first, and what it sends and receives in
+/// fragments.
 #[derive(Drop)]
 pub struct End {
     alloc: Global,
@@ -48,6 +67,7 @@ pub struct End {
     /// The edition that the end writes with, while it isn't the known one.
     writing: Option<Arc<Edition>>,
     queue: VecDeque<Packed>,
+    sessions: Sessions,
 }
 
 impl Model for End {
@@ -62,13 +82,15 @@ impl Model for End {
       known = e.known.value;
       writes = option_map_or (λ edition. edition.value) e.writing e.known.value;
       queue = e.queue.items;
+      sessions = e.sessions;
     } };
 
-    ghost invariant = { λ e. IsEnd e.params e.queue.items };
+    ghost invariant = { λ e. IsEnd e.role e.params e.queue.items e.sessions };
 }
 
 impl End {
-    /// A new end: it knows the empty edition 0 and writes with it, and nothing waits.
+    /// A new end: it knows the empty edition 0 and writes with it, nothing waits, and no session has
+    /// begun.
     ///
     /// # Errors
     /// Want of memory.
@@ -77,6 +99,7 @@ impl End {
         ensures { IfOk result (λ end. end ≡ new_end role params) }
     {
         let known = Arc::new(alloc, Edition::empty(alloc))?;
+        let sessions = Sessions::new(alloc, role, &params)?;
         Ok(End {
             alloc,
             role,
@@ -84,6 +107,7 @@ impl End {
             known,
             writing: None,
             queue: VecDeque::new(alloc),
+            sessions,
         })
     }
 
@@ -108,14 +132,15 @@ impl End {
     /// now, and waits so behind the others.
     ///
     /// # Errors
-    /// The cause to refuse the packet, the first of `DownFault` that is there; nothing has changed
-    /// then. Memory is wanting only for an IPv6 packet of up to 1,500 bytes.
-    #[tactic(auto, unfolding(crate::specs::End::down_step, crate::specs::End::down_from, crate::specs::End::refusal))]
+    /// The first that holds: `NotIpv6` for under 40 bytes or a version that isn't 6; `TooLong` for
+    /// more than 1,500 bytes; `Full` where 8 packets wait. Or want of memory, which comes only where
+    /// none of these holds. Nothing has changed then.
+    #[tactic(auto, unfolding(crate::specs::End::refusal, crate::specs::End::down_step, crate::specs::End::down_from))]
     pub fn down(&mut self, packet: &[u8]) -> Result<Accepted, DownFault>
-        ensures done { IfOk result (λ answer. down_step self.old packet.now ≡ (self.new, Ok answer)) }
+        ensures done { IfOk result (λ accepted. down_step self.old packet.now ≡ (self.new, Ok accepted)) }
         ensures refused { IfErr result (λ fault. (fault ≡ DownFault.Memory) ⊎ (down_step self.old packet.now ≡ (self.old, Err fault))) }
         ensures unchanged { OnErr result (self.new ≡ self.old) }
-        ensures memory { IfErr result (λ fault. fault ≡ DownFault.Memory → (has_ipv6_header packet.now ≡ true) × (length packet.now ≤ max_packet)) }
+        ensures memory { IfErr result (λ fault. fault ≡ DownFault.Memory → refusal self.old packet.now ≡ None) }
     {
         if !has_ipv6_header(packet) {
             return Err(DownFault::NotIpv6);
@@ -123,16 +148,13 @@ impl End {
         if packet.len() > MAX_PACKET {
             return Err(DownFault::TooLong);
         }
+        if self.queue.len() >= QUEUE_ROOM {
+            return Err(DownFault::Full);
+        }
         let form = match self.form_of(packet) {
             Ok(form) => form,
             Err(_) => return Err(DownFault::Memory),
         };
-        if frame_size(&form.bits) > usize::from(self.params.mtu) {
-            return Err(DownFault::TooLong);
-        }
-        if self.queue.len() >= QUEUE_ROOM {
-            return Err(DownFault::Full);
-        }
         let answer = Accepted {
             edition: form.edition,
             rule_id: form.rule_id,
@@ -149,10 +171,13 @@ impl End {
     /// # Errors
     /// Want of memory.
     fn form_of(&self, packet: &[u8]) -> Result<Packed, AllocError>
-        requires { has_ipv6_header packet.now ≡ true }
+        requires ipv6 { has_ipv6_header packet.now ≡ true }
+        requires short { length packet.now ≤ max_packet }
         ensures form { IfOk result (λ form. form ≡ form_of self.now packet.now) }
         ensures is_port { IfOk result (λ form. form.rule_id < 256) }
         ensures has_id { IfOk result (λ form. 8 ≤ length form.bits) }
+        ensures begins { IfOk result (λ form. form.bits ≡ number_bits 8 form.rule_id ++ after_id form.bits) }
+        ensures is_short { IfOk result (λ form. length form.bits < form_room) }
     {
         pack(
             self.alloc,
@@ -163,11 +188,13 @@ impl End {
         )
     }
 
-    /// The frame that is due, if one is: the one that carries the first packet that waits.
+    /// The frame that is due, if one is: first an answer to what was received, second a Sender-Abort,
+    /// third the next message of a session. Fourth, where no session is sending, waiting or closing,
+    /// the first packet that waits: whole where it fits a frame, else as a session, unless the number
+    /// of the last one is still quiet.
     ///
     /// # Errors
     /// Want of memory; nothing has changed then.
-    #[tactic(auto, unfolding(crate::specs::End::slot_step, crate::specs::End::slot_from))]
     pub fn slot(&mut self) -> Result<Option<Emitted>, AllocError>
         ensures done { IfOk result (λ answer. slot_step self.old ≡ (self.new, answer)) }
         ensures unchanged { OnErr result (self.new ≡ self.old) }
@@ -175,35 +202,91 @@ impl End {
         ensures size { IfOk result (λ answer. IfSome answer (λ emitted. length emitted.frame.bytes ≤ self.old.params.mtu)) }
         ensures within { IfOk result (λ answer. IfSome answer (λ emitted. length emitted.frame.bytes ≤ max_mtu)) }
     {
+        if let Some(out) = self.sessions.next(self.alloc)? {
+            return Ok(Some(emitted_out(out)));
+        }
+        if self.sessions.busy() {
+            return Ok(None);
+        }
+        self.send_first()
+    }
+
+    /// The frame that the first packet that waits gives, where no session is sending, waiting or
+    /// closing.
+    ///
+    /// # Errors
+    /// Want of memory; nothing has changed then.
+    #[tactic(auto, unfolding(crate::specs::End::queue_turn, crate::specs::End::slot_from))]
+    fn send_first(&mut self) -> Result<Option<Emitted>, AllocError>
+        ensures done { IfOk result (λ answer. slot_from self.old (first_turn self.old) ≡ (self.new, answer)) }
+        ensures unchanged { OnErr result (self.new ≡ self.old) }
+        ensures port { IfOk result (λ answer. IfSome answer (λ emitted. emitted.frame.port < 256)) }
+        ensures size { IfOk result (λ answer. IfSome answer (λ emitted. length emitted.frame.bytes ≤ self.old.params.mtu)) }
+    {
         let Some(form) = self.queue.front() else {
             return Ok(None);
         };
-        let frame = frame_of(self.alloc, form)?;
-        self.queue.pop_front();
-        Ok(Some(Emitted {
-            frame,
-            kind: EmitKind::Whole,
-            report: None,
-        }))
+        if frame_size(&form.bits) <= usize::from(self.params.mtu) {
+            let frame = frame_of(self.alloc, form)?;
+            self.queue.pop_front();
+            return Ok(Some(emitted_whole(frame)));
+        }
+        if !self.sessions.may_begin() {
+            return Ok(None);
+        }
+        Ok(Some(self.begin_first()?))
     }
 
-    /// Takes a frame: a whole SCHC packet is read with the edition that the end knows. The end stays
-    /// as it is. By the ports of fragments and answers nothing comes yet. A packet that is handed up
-    /// has at most 65,575 bytes, or as many as the frame where that is more.
+    /// The first message of a session that begins with the first packet that waits.
     ///
     /// # Errors
-    /// Want of memory, which comes only for a whole SCHC packet; nothing has changed then.
-    #[tactic(auto, unfolding(crate::specs::End::take_step, crate::specs::End::taken))]
+    /// Want of memory; nothing has changed then.
+    #[tactic(auto, unfolding(crate::specs::End::slot_from))]
+    fn begin_first(&mut self) -> Result<Emitted, AllocError>
+        requires first { IsSomeAnd (slice_get self.old.queue 0) (λ form. min_session_bits ≤ length form.bits) }
+        requires free { session.may_begin self.old.sessions ≡ true }
+        ensures done { IfOk result (λ emitted. IfSome (slice_get self.old.queue 0) (λ form. slot_from self.old (Begins form) ≡ (self.new, Some emitted))) }
+        ensures unchanged { OnErr result (self.new ≡ self.old) }
+        ensures port { IfOk result (λ emitted. emitted.frame.port < 256) }
+        ensures size { IfOk result (λ emitted. length emitted.frame.bytes ≤ self.old.params.mtu) }
+    {
+        let Packed {
+            edition,
+            rule_id,
+            bits,
+        } = self.queue.pop_front().unwrap();
+        match self.sessions.begin(self.alloc, bits) {
+            Ok(out) => Ok(emitted_out(out)),
+            Err(bits) => {
+                self.queue.push_front_reserved(Packed {
+                    edition,
+                    rule_id,
+                    bits,
+                });
+                Err(AllocError)
+            }
+        }
+    }
+
+    /// Takes a frame: a whole SCHC packet is read with the edition that the end knows, and so is one
+    /// that a fragment makes whole. A packet that is handed up has at most 65,575 bytes, or as many as
+    /// the frame where that is more.
+    ///
+    /// # Errors
+    /// Want of memory, which comes only for a whole SCHC packet, an All-1 and an ACK REQ; nothing has
+    /// changed then.
+    #[tactic(auto, unfolding(crate::specs::End::take_step, crate::specs::End::take_from))]
     pub fn take(&mut self, frame: &Frame) -> Result<Taken, AllocError>
         ensures done { IfOk result (λ answer. take_step self.old frame.now ≡ (self.new, answer)) }
         ensures unchanged { OnErr result (self.new ≡ self.old) }
         ensures outcome { IfOk result (λ answer. IsOutcomeOf (Take frame.now) (Took answer)) }
         ensures bound { IfOk result (λ answer. IfSome answer.up (λ up. IsWithin frame.now up.packet)) }
-        ensures memory { OnErr result (meaning_of self.old.role frame.now.port ≡ PortMeaning.Whole) }
+        ensures memory { OnErr result (MayWant frame.now (meaning_of self.old.role frame.now.port)) }
     {
         match meaning(self.role, frame.port) {
             PortMeaning::Whole => self.take_whole(frame),
-            _ => Ok(refused(Cause::UnknownPort)),
+            PortMeaning::Fragments(_) | PortMeaning::Answers(_) => self.take_part(frame),
+            PortMeaning::Unknown => Ok(refused(Cause::UnknownPort)),
         }
     }
 
@@ -218,30 +301,80 @@ impl End {
         ensures bound { IfOk result (λ answer. IfSome answer.up (λ up. IsWithin frame.now up.packet)) }
     {
         let bits = carried(self.alloc, frame)?;
-        let direction = self.role.other().sends();
-        match unpack(self.alloc, &self.known, self.params.iids, direction, &bits) {
-            Ok(unpacked) => Ok(handed_up(self.known.number(), unpacked)),
-            Err(UnpackFault::Memory) => Err(AllocError),
+        match self.read(&bits)? {
+            Ok(unpacked) => Ok(handed_up(self.known.number(), unpacked, None, Note::Small)),
             Err(fault) => Ok(refused(Cause::Unpack(fault))),
         }
     }
 
+    /// What the end answers to a fragment or to an answer to its fragments.
+    ///
+    /// # Errors
+    /// Want of memory; nothing has changed then.
+    fn take_part(&mut self, frame: &Frame) -> Result<Taken, AllocError>
+        ensures done { IfOk result (λ answer. part_step self.old frame.now ≡ (self.new, answer)) }
+        ensures unchanged { OnErr result (self.new ≡ self.old) }
+        ensures outcome { IfOk result (λ answer. IsOutcomeOf (Take frame.now) (Took answer)) }
+        ensures bound { IfOk result (λ answer. IfSome answer.up (λ up. IsWithin frame.now up.packet)) }
+        ensures memory { OnErr result (IsSome (assembly_of self.old frame.now)) }
+    {
+        let joined = self.joined(frame)?;
+        let bytes = frame.bytes.as_slice();
+        let (note, report) = self.sessions.take(frame.port, bytes);
+        Ok(taken_part(self.known.number(), note, report, joined))
+    }
+
+    /// What the end reads from the SCHC packet that the frame makes whole, where it makes one.
+    ///
+    /// # Errors
+    /// Want of memory.
+    fn joined(&self, frame: &Frame) -> Result<Option<Result<Unpacked, UnpackFault>>, AllocError>
+        ensures done { IfOk result (λ read. read ≡ joined self.now frame.now) }
+        ensures note { IfOk result (λ read. IfSome read IsAnswer) }
+        ensures bound { IfOk result (λ read. IfSome read (λ read. IfOk read (λ unpacked. length unpacked.packet ≤ max_ipv6_packet))) }
+        ensures memory { OnErr result (IsSome (assembly_of self.now frame.now)) }
+    {
+        let bytes = frame.bytes.as_slice();
+        match self.sessions.preview(self.alloc, frame.port, bytes)? {
+            Some(assembly) => Ok(Some(self.read(&assembly)?)),
+            None => Ok(None),
+        }
+    }
+
+    /// What the end reads from the bits of an SCHC packet, with the edition that it knows.
+    ///
+    /// # Errors
+    /// Want of memory.
+    fn read(&self, bits: &Bits) -> Result<Result<Unpacked, UnpackFault>, AllocError>
+        ensures done { IfOk result (λ read. read ≡ read_bits self.now bits.now) }
+        ensures note { IfOk result IsAnswer }
+        ensures says { IfOk result (λ read. IfOk read (λ unpacked. Decodes self.now.known self.now.params.iids (taken_direction self.now.role) bits.now unpacked.packet unpacked.rule_id)) }
+        ensures bound { IfOk result (λ read. IfOk read (λ unpacked. (length unpacked.packet ≤ max_ipv6_packet) ⊎ (8 * length unpacked.packet ≤ length bits.now))) }
+    {
+        let direction = self.role.other().sends();
+        match unpack(self.alloc, &self.known, self.params.iids, direction, bits) {
+            Ok(unpacked) => Ok(Ok(unpacked)),
+            Err(UnpackFault::Memory) => Err(AllocError),
+            Err(fault) => Ok(Err(fault)),
+        }
+    }
+
     /// Lets one tick pass, and says how a session of this end ended by it. With no armed timer it
-    /// changes nothing; as long as there are no sessions, none is armed.
+    /// changes nothing.
     #[tactic(auto, unfolding(crate::specs::End::tick_step))]
     pub fn tick(&mut self) -> Option<Report>
         ensures { tick_step self.old ≡ (self.new, result) }
     {
-        None
+        self.sessions.tick()
     }
 
-    /// Gives up the session that the end sends, and says so: `None` exactly where there is none, as
-    /// always as long as there are no sessions.
+    /// Gives up the session that the end sends, and says so: `None` exactly where no session is
+    /// sending or waiting.
     #[tactic(auto, unfolding(crate::specs::End::abort_step))]
     pub fn abort(&mut self) -> Option<Report>
         ensures { abort_step self.old ≡ (self.new, result) }
     {
-        None
+        self.sessions.abort()
     }
 
     /// Whether a timer of this end runs.
@@ -249,7 +382,7 @@ impl End {
     pub fn armed(&self) -> bool
         ensures { result ≡ is_armed self.now }
     {
-        false
+        self.sessions.armed()
     }
 
     /// Offers an edition of rules to the end, which knows it from now on unless it is older than the
@@ -285,6 +418,28 @@ impl End {
     }
 }
 
+/// What the end says of a frame that carries an SCHC packet whole.
+fn emitted_whole(frame: Frame) -> Emitted
+    ensures { result ≡ record { frame = frame; kind = EmitKind.Whole; report = None } }
+{
+    Emitted {
+        frame,
+        kind: EmitKind::Whole,
+        report: None,
+    }
+}
+
+/// What the end says of a frame that is given of its sessions.
+fn emitted_out(out: SessionOut) -> Emitted
+    ensures { result ≡ emitted_out out }
+{
+    Emitted {
+        frame: out.frame,
+        kind: out.kind,
+        report: out.report,
+    }
+}
+
 /// The answer to a frame that is refused.
 fn refused(cause: Cause) -> Taken
     ensures { result ≡ refused cause }
@@ -297,9 +452,8 @@ fn refused(cause: Cause) -> Taken
 }
 
 /// The answer to a frame whose packet was read with the edition of this number.
-#[tactic(auto, unfolding(crate::specs::End::taken_whole))]
-fn handed_up(number: u32, unpacked: Unpacked) -> Taken
-    ensures { result ≡ taken_whole number (Ok unpacked) }
+fn handed_up(number: u32, unpacked: Unpacked, report: Option<Report>, note: Note) -> Taken
+    ensures { result ≡ record { up = Some (up_of number unpacked); report = report; note = note } }
 {
     Taken {
         up: Some(HandUp {
@@ -307,7 +461,33 @@ fn handed_up(number: u32, unpacked: Unpacked) -> Taken
             rule_id: unpacked.rule_id,
             packet: unpacked.packet,
         }),
-        report: None,
-        note: Note::Small,
+        report,
+        note,
+    }
+}
+
+/// The answer to a fragment or to an answer that meant this to the sessions: the packet that it makes
+/// whole, read with the edition of this number, is handed up.
+#[tactic(auto, unfolding(crate::specs::End::taken_part))]
+fn taken_part(
+    number: u32,
+    note: Note,
+    report: Option<Report>,
+    joined: Option<Result<Unpacked, UnpackFault>>,
+) -> Taken
+    ensures { result ≡ taken_part number (note, report) joined }
+{
+    match joined {
+        None => Taken {
+            up: None,
+            report,
+            note,
+        },
+        Some(Ok(unpacked)) => handed_up(number, unpacked, report, note),
+        Some(Err(fault)) => Taken {
+            up: None,
+            report,
+            note: Note::Refused(Cause::Unpack(fault)),
+        },
     }
 }
