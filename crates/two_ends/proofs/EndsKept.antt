@@ -21,17 +21,23 @@ use Rattle.end_core.specs.Data.{EndData}
 use Rattle.end_core.specs.End.{form_of}
 use Rattle.end_core.specs.Events as at_end
 use Rattle.end_core.specs.EndStep.{end_step}
-use Rattle.end_core.proofs.StepLemmas.{Does, end_step-does}
+use Rattle.sessions.specs.Data.{SessionsData}
+use Rattle.packer.specs.declared.packing.Packed.{Packed}
+use Rattle.end_core.specs.End.{tick_step as end_tick, abort_step as end_abort}
+use Rattle.end_core.proofs.StepLemmas.{Does, end_step-does, turn-serves}
+use Rattle.two_ends.proofs.SessionsKept.{AreSessions, are-new, IsChoiceOf, choice-is, next-keeps, begin-keeps, take-keeps, tick-keeps as sessions-tick, abort-keeps}
 use Rattle.two_ends.specs.World.{WorldData, beginning, end_of, taker, frames_of, last_edition, numbered, end_event, deliver_step, tick_step, publish_step, offer_step, step}
 use Rattle.two_ends.proofs.PerLemmas.{each-put_role}
 use Rattle.two_ends.proofs.GrownLemmas.{answered-chain, answered-ends}
 
--- an end has its role and its parameters, and the editions that it knows and writes with stand in the chain
+-- an end has its role and its parameters, the editions that it knows and writes with stand in the chain, and what it keeps of its
+-- sessions has its form
 pub record EndKeeps (params : EndParams) (chain : List EditionData) (role : Role) (this : EndData) : Type 0 where
   pub its_role : this.role ≡ role
   pub its_params : this.params ≡ params
   pub knows : slice_get chain this.known.number ≡ Some this.known
   pub writes_with : slice_get chain this.writes.number ≡ Some this.writes
+  pub sessions : AreSessions role params this.sessions
 
 -- both ends of a world
 abbrev pub EndsKeep : EndParams → List EditionData → PerRole EndData → Type 0
@@ -45,22 +51,36 @@ abbrev Stands : List EditionData → at_end.EndEvent → Type 0
 Stands chain (at_end.Offer edition) = slice_get chain edition.number ≡ Some edition
 Stands chain event = Unit {0}
 
+-- the end with other sessions, and with another queue
+sessions-kept : (params : EndParams) (chain : List EditionData) (role : Role) (this : EndData) (queue : List Packed) (s : SessionsData) → AreSessions role params s → EndKeeps params chain role this → EndKeeps params chain role (record this { queue = queue; sessions = s })
+sessions-kept params chain role this queue s a k =
+    record { its_role = k.its_role; its_params = k.its_params; knows = k.knows; writes_with = k.writes_with; sessions = a }
+
 does-keeps : (params : EndParams) (chain : List EditionData) (role : Role) (this : EndData) (event : at_end.EndEvent) (new : EndData) (o : at_end.Outcome) → Does this event new o → Stands chain event → EndKeeps params chain role this → EndKeeps params chain role new
+unfolding end_tick end_abort
 does-keeps params chain role this _ _ _ (Does.refuses packet fault) s k = k
-does-keeps params chain role this _ _ _ (Does.accepts packet ipv6) s k =
-    record { its_role = k.its_role; its_params = k.its_params; knows = k.knows; writes_with = k.writes_with }
-does-keeps params chain role this _ _ _ (Does.rests none) s k = k
-does-keeps params chain role this _ _ _ (Does.sends form first) s k =
-    record { its_role = k.its_role; its_params = k.its_params; knows = k.knows; writes_with = k.writes_with }
-does-keeps params chain role this _ _ _ (Does.takes frame) s k = k
-does-keeps params chain role this _ _ _ (Does.ticks) s k = k
-does-keeps params chain role this _ _ _ (Does.aborts) s k = k
+does-keeps params chain role this _ _ _ (Does.accepts packet ipv6 short) s k = sessions-kept params chain role this _ this.sessions k.sessions k
+does-keeps params chain role this _ _ _ (Does.serves given e) s k =
+    sessions-kept params chain role this this.queue _
+    (next-keeps role params this.sessions given (subst (IsChoiceOf role params this.sessions.senders this.sessions.receivers) (turn-serves this given e) (choice-is role params this.sessions k.sessions)) k.sessions) k
+does-keeps params chain role this _ _ _ (Does.sends form e) s k = sessions-kept params chain role this _ this.sessions k.sessions k
+does-keeps params chain role this _ _ _ (Does.begins form e) s k =
+    sessions-kept params chain role this _ _ (begin-keeps role params this.sessions form.bits k.sessions) k
+does-keeps params chain role this _ _ _ (Does.rests e) s k = k
+does-keeps params chain role this _ _ _ (Does.takes_whole frame e) s k = k
+does-keeps params chain role this _ _ _ (Does.takes_part frame e) s k =
+    sessions-kept params chain role this this.queue _ (take-keeps role params this.sessions frame.port frame.bytes k.sessions) k
+does-keeps params chain role this _ _ _ (Does.takes_none frame e) s k = k
+does-keeps params chain role this _ _ _ (Does.ticks) s k =
+    sessions-kept params chain role this this.queue _ (sessions-tick role params this.sessions k.sessions) k
+does-keeps params chain role this _ _ _ (Does.aborts) s k =
+    sessions-kept params chain role this this.queue _ (abort-keeps role params this.sessions k.sessions) k
 does-keeps params chain role this _ _ _ (Does.declines edition answer) s k = k
 does-keeps params chain role this _ _ _ (Does.adopts edition) s k =
-    record { its_role = k.its_role; its_params = k.its_params; knows = s; writes_with = k.writes_with }
+    record { its_role = k.its_role; its_params = k.its_params; knows = s; writes_with = k.writes_with; sessions = k.sessions }
 does-keeps params chain role this _ _ _ (Does.stays number) s k = k
 does-keeps params chain role this _ _ _ (Does.writes number) s k =
-    record { its_role = k.its_role; its_params = k.its_params; knows = k.knows; writes_with = k.knows }
+    record { its_role = k.its_role; its_params = k.its_params; knows = k.knows; writes_with = k.knows; sessions = k.sessions }
 
 end_event-keeps : (params : EndParams) (w : WorldData) (role : Role) (event : at_end.EndEvent) → Stands w.chain event → EndsKept params w → EndsKept params (end_event w role event).0
 unfolding end_event
@@ -105,6 +125,7 @@ end-longer params chain more role this k =
       its_params = k.its_params;
       knows = slice_get-more chain more this.known.number this.known k.knows;
       writes_with = slice_get-more chain more this.writes.number this.writes k.writes_with;
+      sessions = k.sessions;
     }
 
 publish-keeps : (params : EndParams) (w : WorldData) (r : Result EditionData Finding) → EndsKept params w → EndsKept params (publish_step w r).0
@@ -114,8 +135,10 @@ publish-keeps params w (Ok new) k = λ role. end-longer params w.chain (new ∷ 
 
 -- it holds at the beginning
 pub ends-start : (params : EndParams) → EndsKept params (beginning params)
-ends-start params Device = record { its_role = refl; its_params = refl; knows = refl; writes_with = refl }
-ends-start params Gateway = record { its_role = refl; its_params = refl; knows = refl; writes_with = refl }
+ends-start params Device =
+    record { its_role = refl; its_params = refl; knows = refl; writes_with = refl; sessions = are-new Device params }
+ends-start params Gateway =
+    record { its_role = refl; its_params = refl; knows = refl; writes_with = refl; sessions = are-new Gateway params }
 
 -- every event keeps it
 pub ends-step : (params : EndParams) (w : WorldData) (event : Event) → IsChain w.chain → EndsKept params w → EndsKept params (step w event).0

@@ -1,5 +1,5 @@
 -- What stays true while events happen: the chain and the logs only grow.
-use Rattle.std.proofs.Common.{◌≡◌, ℕ, ◌+◌, Option, Some, None, Result, Ok, Err, slice_get, refl, sym, subst}
+use Rattle.std.proofs.Common.{◌≡◌, ℕ, ◌+◌, Option, Some, None, Result, Ok, Err, slice_get, refl, sym, ap, subst, ◌∙◌}
 use Rattle.schc_bits.proofs.ListLemmas.{slice_get-more}
 use Rattle.schc_ids.specs.declared.ends.Role.{Role}
 use Rattle.schc_ids.specs.declared.ends.Role.TheVariants.{Device, Gateway}
@@ -17,14 +17,22 @@ use Rattle.end_core.specs.Events as at_end
 use Rattle.end_core.specs.EndStep.{end_step}
 use Rattle.two_ends.specs.World.{WorldData, end_of, taker, frames_of, last_edition, numbered, answered, end_event, deliver_step, tick_step, publish_step, offer_step, step}
 use Rattle.two_ends.specs.Labels.{Label, Whole, Session}
-use Rattle.two_ends.specs.Logs.{HandedDown}
-use Rattle.two_ends.specs.Safe.{down_of}
-use Rattle.two_ends.specs.History.{History, after_step, next}
+use Rattle.two_ends.specs.Logs.{HandedDown, Began}
+use Rattle.two_ends.specs.Safe.{carried_down, down_of}
+use Rattle.two_ends.specs.Happening.{Happening, Nothing, Waits, Gives, Arrives, Fragment, Answer, Ticks, GivesUp}
+use Rattle.two_ends.specs.History.{History, happening, downs_after, begins_after, joins_after, after, next}
+use Rattle.two_ends.specs.Keys.{Keyed}
+use Rattle.lanes.specs.Lane.{Check}
+use Rattle.lanes.proofs.ListLemmas.{among-more}
+use Rattle.tiles_bitmap.specs.Places.{Among}
 
--- editions and packets that were handed down stay where they are, and one more event has happened
+-- editions, packets that were handed down and sessions that began stay where they are, checks that passed stay, and one more
+-- event has happened
 pub record Grown (h new : History) : Type 0 where
   pub stands : (i : ℕ) (edition : EditionData) → slice_get h.world.chain i ≡ Some edition → slice_get new.world.chain i ≡ Some edition
   pub leads : (i : ℕ) (w : HandedDown) → slice_get h.logs.downs i ≡ Some w → slice_get new.logs.downs i ≡ Some w
+  pub begun : (i : ℕ) (b : Began) → slice_get h.logs.begins i ≡ Some b → slice_get new.logs.begins i ≡ Some b
+  pub joined : (j : Keyed Check) → Among j h.logs.joins → Among j new.logs.joins
   pub later : new.place ≡ h.place + 1
 
 -- an end that takes an event leaves the chain, and the other end
@@ -86,17 +94,62 @@ step-chain w (Publish raw) i edition e = publish-chain w (published (last_editio
 step-chain w (Offer role number) i edition e = offer-chain w role number (slice_get w.chain number) i edition e
 step-chain w (Allow role number) i edition e = end_event-chain w role (at_end.Allow number) i edition e
 
+-- the logs only grow
+down-stays : (h : History) (x : Happening) (i : ℕ) (w : HandedDown) → slice_get h.logs.downs i ≡ Some w → slice_get (downs_after h x) i ≡ Some w
+unfolding downs_after
+down-stays h Nothing i w e = e
+down-stays h (Waits role packet accepted) i w e = slice_get-more h.logs.downs _ i w e
+down-stays h (Gives role given) i w e = e
+down-stays h (Arrives direction place frame) i w e = e
+down-stays h (Fragment key m) i w e = e
+down-stays h (Answer key m) i w e = e
+down-stays h (Ticks target) i w e = e
+down-stays h (GivesUp role id) i w e = e
+
+begun-stays : (h : History) (x : Happening) (i : ℕ) (b : Began) → slice_get h.logs.begins i ≡ Some b → slice_get (begins_after h x) i ≡ Some b
+unfolding begins_after
+begun-stays h Nothing i b e = e
+begun-stays h (Waits role packet accepted) i b e = e
+begun-stays h (Gives role given) i b e = slice_get-more h.logs.begins _ i b e
+begun-stays h (Arrives direction place frame) i b e = e
+begun-stays h (Fragment key m) i b e = e
+begun-stays h (Answer key m) i b e = e
+begun-stays h (Ticks target) i b e = e
+begun-stays h (GivesUp role id) i b e = e
+
+join-stays : (h : History) (x : Happening) (j : Keyed Check) → Among j h.logs.joins → Among j (joins_after h x)
+unfolding joins_after
+join-stays h Nothing j there = there
+join-stays h (Waits role packet accepted) j there = there
+join-stays h (Gives role given) j there = there
+join-stays h (Arrives direction place frame) j there = there
+join-stays h (Fragment key m) j there = among-more j h.logs.joins _ there
+join-stays h (Answer key m) j there = there
+join-stays h (Ticks target) j there = there
+join-stays h (GivesUp role id) j there = there
+
 -- each event leaves a history that has grown
 pub grown : (h : History) (event : Event) → Grown h (next h event)
-unfolding next after_step
+unfolding next after
 grown h event =
     record {
       stands = λ i edition e. step-chain h.world event i edition e;
-      leads = λ i w e. slice_get-more h.logs.downs _ i w e;
+      leads = λ i w e. down-stays h (happening h event) i w e;
+      begun = λ i b e. begun-stays h (happening h event) i b e;
+      joined = λ j there. join-stays h (happening h event) j there;
       later = refl;
     }
 
+carried-leads : (h new : History) → Grown h new → (o : Option Began) (w : HandedDown) → carried_down h.logs.downs o ≡ Some w → carried_down new.logs.downs o ≡ Some w
+carried-leads h new g None w e = absurd cc
+carried-leads h new g (Some b) w e = g.leads b.down w e
+
+session-leads : (h new : History) → Grown h new → (place : ℕ) (o : Option Began) (w : HandedDown) → slice_get h.logs.begins place ≡ o → carried_down h.logs.downs o ≡ Some w → carried_down new.logs.downs (slice_get new.logs.begins place) ≡ Some w
+session-leads h new g place None w there e = absurd cc
+session-leads h new g place (Some b) w there e =
+    ap (carried_down new.logs.downs) (g.begun place b there) ∙ g.leads b.down w e
+
 -- a label leads where it led
-pub label-leads : (h new : History) → Grown h new → (label : Label) (w : HandedDown) → down_of h.logs.downs label ≡ Some w → down_of new.logs.downs label ≡ Some w
+pub label-leads : (h new : History) → Grown h new → (label : Label) (w : HandedDown) → down_of h.logs label ≡ Some w → down_of new.logs label ≡ Some w
 label-leads h new g (Whole place) w e = g.leads place w e
-label-leads h new g (Session place) w e = absurd cc
+label-leads h new g (Session place) w e = session-leads h new g place (slice_get h.logs.begins place) w refl e

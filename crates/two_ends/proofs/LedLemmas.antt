@@ -1,10 +1,8 @@
 -- Lists whose items each have a label that leads to a packet that was handed down.
-use Rattle.std.proofs.Common.{◌≡◌, ℕ, zero, suc, List, [], ◌∷◌, ◌++◌, length, take, drop, Option, Some, None, refl, sym, subst, ap}
+use Rattle.std.proofs.Common.{◌≡◌, ℕ, suc, List, [], ◌∷◌, ◌++◌, length, take, drop, Option, Some, None, refl, sym, subst, ap}
 use Rattle.std.specs.Prelude.{IsSomeAnd, slice_get}
-use Rattle.two_ends.specs.World.{numbered}
-use Rattle.two_ends.specs.Labels.{Label}
+use Rattle.two_ends.specs.Labels.{first_place}
 use Rattle.two_ends.specs.Logs.{HandedDown}
-use Rattle.two_ends.specs.Safe.{down_of, labelled_down}
 
 -- each item has a label, and is related to the packet to which its label leads
 abbrev pub Led : {A L : Type 0} → (A → HandedDown → Type 0) → (L → Option HandedDown) → List A → List L → Type 0
@@ -66,10 +64,14 @@ led-length R find [] (l ∷ ls) h = absurd h
 led-length R find (x ∷ xs) [] h = absurd h
 led-length R find (x ∷ xs) (l ∷ ls) h = ap suc (led-length R find xs ls h.1)
 
--- the item with a number is related to the packet to which the label with that number leads
-pub led-at : {A : Type 0} (R : A → HandedDown → Type 0) (downs : List HandedDown) (xs : List A) (ls : List Label) (number : ℕ) (x : A) → numbered xs number ≡ Some x → Led R (down_of downs) xs ls → IsSomeAnd (labelled_down downs (numbered ls number)) (R x)
-led-at R downs xs ls zero x e h = cc
-led-at R downs [] ls (suc k) x e h = cc
-led-at R downs (y ∷ xs) [] (suc k) x e h = absurd h
-led-at R downs (y ∷ xs) (l ∷ ls) (suc zero) x e h = subst (λ v. IsSomeAnd (down_of downs l) (R v)) (some_injective e) h.0
-led-at R downs (y ∷ xs) (l ∷ ls) (suc (suc k)) x e h = led-at R downs xs ls (suc k) x e h.1
+-- the first of the labels is the first place
+pub led-first_place : {A : Type 0} (R : A → HandedDown → Type 0) (find : ℕ → Option HandedDown) (xs : List A) (ls : List ℕ) (x : A) → slice_get xs 0 ≡ Some x → Led R find xs ls → IsSomeAnd (find (first_place ls)) (R x)
+led-first_place R find [] ls x e h = absurd cc
+led-first_place R find (y ∷ xs) [] x e h = absurd h
+led-first_place R find (y ∷ xs) (l ∷ ls) x e h = subst (λ v. IsSomeAnd (find l) (R v)) (some_injective e) h.0
+
+-- where there is no item, there is no label
+pub led-none : {A L : Type 0} (R : A → HandedDown → Type 0) (find : L → Option HandedDown) (xs : List A) (ls : List L) → xs ≡ [] → Led R find xs ls → ls ≡ []
+led-none R find [] [] e h = refl
+led-none R find [] (l ∷ ls) e h = absurd h
+led-none R find (x ∷ xs) ls e h = absurd cc

@@ -1,5 +1,5 @@
 -- Editions of the one chain don't diverge, so that an end adopts each that is newer than the one that it knows.
-use Rattle.std.proofs.Common.{◌≡◌, ◌⊎◌, ℕ, ◌<◌, ◌≤◌, List, Option, Some, None, Result, Ok, Err, slice_get, inl, inr, refl, sym, ap, subst, ◌∙◌, arith}
+use Rattle.std.proofs.Common.{◌≡◌, ℕ, ◌<◌, List, Option, Some, None, Result, Ok, Err, slice_get, inl, inr, refl, ap, ◌∙◌, arith}
 use Rattle.std.proofs.lemmas.Bool.{cases_lt}
 use Rattle.schc_bits.proofs.ListLemmas.{all-at_place}
 use Rattle.schc_ids.specs.declared.ends.EndParams.{EndParams}
@@ -23,11 +23,11 @@ use Rattle.end_core.specs.EndStep.{end_step}
 use Rattle.end_core.proofs.OfferLemmas.{offer_step-adopts, offer_step-older}
 use Rattle.two_ends.specs.World.{WorldData, end_of, with_end, answered, end_event, offer_step, step}
 use Rattle.two_ends.specs.Fits.{Fits}
-use Rattle.two_ends.specs.History.{History, start, run}
+use Rattle.two_ends.specs.History.{start, run}
 use Rattle.two_ends.specs.Clean.{outcome}
 use Rattle.two_ends.specs.Offers.{IsOfferedInChain}
 use Rattle.two_ends.proofs.ChainKept.{ChainKept}
-use Rattle.two_ends.proofs.EndsKept.{EndKeeps, EndsKept}
+use Rattle.two_ends.proofs.EndsKept.{EndsKept}
 use Rattle.two_ends.proofs.KeepsLemmas.{Keeps, run-start-keeps, bytes-of-fits}
 
 -- what the world says of an edition of the chain is what the end answers
@@ -71,9 +71,9 @@ not-diverged params w role number id (Some edition) chain ends there e =
 -- so it is after every list of events
 pub run-offers : (params : EndParams) (events : List Event) (role : Role) (number : ℕ) → Fits params events → IsOfferedInChain (run events (start params)).world role number
 run-offers params events role number fits =
-    let k : Keeps params (run events (start params)) = run-start-keeps params events (bytes-of-fits params events fits) in
+    let k : Keeps params (run events (start params)) = run-start-keeps params events fits.within.0 (bytes-of-fits params events fits) in
     let w = (run events (start params)).world in
     record {
-      adopts = λ edition there above. adopted params w role number edition k.chain k.ends there above;
-      never_diverges = λ id. not-diverged params w role number id (slice_get w.chain number) k.chain k.ends refl;
+      adopts = λ edition there above. adopted params w role number edition k.world.chain k.world.ends there above;
+      never_diverges = λ id. not-diverged params w role number id (slice_get w.chain number) k.world.chain k.world.ends refl;
     }

@@ -57,3 +57,10 @@ at_role-put_role-taker xs Gateway x = refl
 pub sends-way : (direction : Direction) → sent_direction (sender direction) ≡ direction
 sends-way way.Up = refl
 sends-way way.Down = refl
+
+-- one value was put in a direction
+pub each-put_direction : {A : Type 0} (P : Direction → A → Type 0) (xs : PerDirection A) (direction : Direction) (x : A) → P direction x → ((other : Direction) → P other (at_direction xs other)) → (other : Direction) → P other (at_direction (put_direction xs direction x) other)
+each-put_direction P xs way.Up x p each way.Up = p
+each-put_direction P xs way.Up x p each way.Down = each way.Down
+each-put_direction P xs way.Down x p each way.Up = each way.Up
+each-put_direction P xs way.Down x p each way.Down = p

@@ -1,10 +1,11 @@
 -- A run in which nothing is lost: a packet that is handed down arrives, once.
-use Rattle.std.specs.Prelude.{◌≡◌, ℕ, zero, suc, ◌≤◌, List, [], ◌∷◌, ◌++◌, length, Some, None, Result, Ok, slice_get}
+use Rattle.std.specs.Prelude.{◌≡◌, ℕ, zero, suc, ◌+◌, ◌-◌, ◌/◌, ◌≤◌, List, [], ◌∷◌, ◌++◌, length, Some, None, Result, Ok, slice_get}
 use Rattle.schc_bits.specs.Bits.{AreBytes}
 use Rattle.schc_ids.specs.Ends.{sent_direction, other_role}
 use Rattle.schc_ids.specs.declared.ends.EndParams.{EndParams}
 use Rattle.schc_ids.specs.declared.ends.Role.{Role}
 use Rattle.schc_ids.specs.declared.ends.Direction.{Direction}
+use Rattle.schc_ids.specs.declared.phases.ReceiverPhase.TheVariants as phase
 use Rattle.editions.specs.Data.{EditionData}
 use Rattle.packer.specs.Laws.{RestoresUnder}
 use Rattle.event_data.specs.Events.{Event, Down, Slot, Deliver}
@@ -16,7 +17,10 @@ use Rattle.two_ends.specs.World.{WorldData, end_of, step}
 use Rattle.two_ends.specs.Fits.{Fits, FitsEvent}
 use Rattle.two_ends.specs.Labels.{Whole}
 use Rattle.two_ends.specs.Logs.{HandedUp}
-use Rattle.two_ends.specs.History.{History, start, next, run}
+use Rattle.sessions.specs.Receivers.{receiver_phase}
+use Rattle.two_ends.specs.Happening.{own_key}
+use Rattle.two_ends.specs.History.{History, reception_at, start, next, run}
+use Rattle.two_ends.specs.Keys.{Key, sent_key}
 
 -- an outcome of an event
 abbrev pub outcome : WorldData → Event → Result Line StepFault
@@ -26,11 +30,17 @@ outcome w event = (step w event).1
 abbrev pub HasNothingDue : WorldData → Type 0
 HasNothingDue w = (role : Role) → outcome w (Slot role) ≡ Ok (line.Slot None)
 
--- A clean start for this end: neither end has a frame due, and nothing waits at this end. No session of it is open or quiet,
--- and the receiver of its key is empty: of these nothing is asked as long as there are no sessions.
+-- the key by which an end sends
+abbrev pub key_of_end : WorldData → Role → Key
+key_of_end w role = sent_key role (own_key (end_of w role))
+
+-- A clean start for this end: neither end has a frame due, and nothing waits at this end. No session of it is open or quiet, and
+-- the receiver of its key is empty
 pub record IsClean (w : WorldData) (role : Role) : Type 0 where
   pub nothing_due : HasNothingDue w
   pub nothing_waits : (end_of w role).queue ≡ []
+  pub no_session : (end_of w role).sessions.senders ≡ []
+  pub receiver_empty : receiver_phase (reception_at w (key_of_end w role)).receiver ≡ phase.Empty
 
 -- the frame that a slot gave in this direction is delivered; where it gave none, nothing happens
 unfoldable pub delivered : History → Direction → Result Line StepFault → History
@@ -73,16 +83,20 @@ pub record IsCarried (before after : History) (role : Role) (packet : List ℕ) 
   pub arrives : BringsUp before.logs.ups after.logs.ups before.world.chain (sent_direction role) packet accepted (length before.logs.downs)
   pub at_rest : HasNothingDue after.world
 
--- the plain rounds that a packet needs: each goes whole, in one frame
+-- the packet goes whole, in one frame: its bits after the RuleID fit in whole bytes
+abbrev pub GoesWhole : WorldData → Role → Accepted → Type 0
+GoesWhole w role accepted = (accepted.bits - 8 + 7) / 8 ≤ (end_of w role).params.mtu
+
+-- the plain rounds that such a packet needs
 abbrev pub needed_rounds : ℕ
 needed_rounds = 1
 
--- a packet that is handed down at a clean start, and taken, is carried by that many plain rounds or more, where the other
--- end knows the edition with which it was written, or a later one
+-- a packet that is handed down at a clean start, and taken, and goes whole, is carried by that many plain rounds or more, where
+-- the other end knows the edition with which it was written, or a later one
 abbrev pub Arrives : History → Role → List ℕ → Type 0
 Arrives h role packet =
     (accepted : Accepted) → IsClean h.world role →
-    outcome h.world (Down role packet) ≡ Ok (line.Hand accepted) → ReaderKnows h.world role accepted →
+    outcome h.world (Down role packet) ≡ Ok (line.Hand accepted) → GoesWhole h.world role accepted → ReaderKnows h.world role accepted →
     (rounds : ℕ) → needed_rounds ≤ rounds →
     IsCarried h (plain_rounds rounds (next h (Down role packet)) role) role packet accepted
 

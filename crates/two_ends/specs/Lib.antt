@@ -1,8 +1,12 @@
 pub mod World
 pub mod Fits
+pub mod Keys
 pub mod Labels
 pub mod Logs
+pub mod Happening
 pub mod History
+pub mod Lanes
+pub mod Fresh
 pub mod Safe
 pub mod Clean
 pub mod Offers

@@ -9,7 +9,7 @@ use Rattle.event_data.specs.declared.outcomes.Offered.TheVariants.{Adopted, Dive
 use Rattle.end_core.specs.End.{with_known}
 use Rattle.two_ends.specs.World.{WorldData, end_of, with_end, step}
 use Rattle.two_ends.specs.Fits.{Fits}
-use Rattle.two_ends.specs.History.{History, start, run}
+use Rattle.two_ends.specs.History.{start, run}
 use Rattle.two_ends.specs.Clean.{outcome}
 
 -- An end adopts the edition of the chain with this number where it is above that of the edition that it knows. The answer

@@ -11,7 +11,8 @@ use Rattle.packer.specs.Laws.{IsSound, RestoresUnder, AgreeOn}
 use Rattle.event_data.specs.Events.{Event}
 use Rattle.two_ends.specs.Fits.{Fits}
 use Rattle.two_ends.specs.Labels.{Label, Whole, Session}
-use Rattle.two_ends.specs.Logs.{HandedDown, HandedUp}
+use Rattle.two_ends.specs.Logs.{HandedDown, HandedUp, Began, Logs}
+use Rattle.two_ends.specs.Fresh.{IsHonest, IsFresh, IsEarned}
 use Rattle.two_ends.specs.History.{History, start, run}
 
 -- The packet that was handed up is this one that was handed down: earlier, and in the same direction. It was written with an
@@ -35,33 +36,50 @@ pub record IsHandedDownAs (chain : List EditionData) (iids : Iids) (up : HandedU
   pub bytes_down : AreBytes down.packet
   pub bytes_up : AreBytes up.packet
 
--- the packet that a label leads to: no session has begun yet
-abbrev pub down_of : List HandedDown → Label → Option HandedDown
-down_of downs (Whole place) = slice_get downs place
-down_of downs (Session place) = None
+-- the packet that a label leads to: that of the whole frame, or that which the session carries
+abbrev pub carried_down : List HandedDown → Option Began → Option HandedDown
+carried_down downs None = None
+carried_down downs (Some began) = slice_get downs began.down
 
-abbrev pub labelled_down : List HandedDown → Option Label → Option HandedDown
-labelled_down downs None = None
-labelled_down downs (Some label) = down_of downs label
+abbrev pub down_of : Logs → Label → Option HandedDown
+down_of logs (Whole place) = slice_get logs.downs place
+down_of logs (Session place) = carried_down logs.downs (slice_get logs.begins place)
 
--- each packet that was handed up is the one that was handed down to which its label leads
-abbrev pub AreHandedDown : List EditionData → Iids → List HandedDown → List HandedUp → Type 0
-AreHandedDown chain iids downs ups =
-    AllByRecursion (λ up. IsSomeAnd (labelled_down downs up.label) (IsHandedDownAs chain iids up)) ups
+abbrev pub labelled_down : Logs → Option Label → Option HandedDown
+labelled_down logs None = None
+labelled_down logs (Some label) = down_of logs label
 
--- the editions of the world are one chain, each with rules that are admitted and in ascending order of RuleID, and with
--- them each packet that was handed up is one that was handed down
+-- the packet that was handed up is the one that was handed down to which its label leads
+abbrev pub IsLed : Iids → History → HandedUp → Type 0
+IsLed iids h up = IsSomeAnd (labelled_down h.logs up.label) (IsHandedDownAs h.world.chain iids up)
+
+-- its frame carried it whole
+abbrev pub IsWhole : HandedUp → Type 0
+IsWhole up = (place : ℕ) × (up.label ≡ Some (Whole place))
+
+-- the editions of the world are one chain, each with rules that are admitted and in ascending order of RuleID, and with them
+-- each packet that was handed up is one that was handed down
 pub record IsSafe (iids : Iids) (h : History) : Type 0 where
   pub one_chain : IsChain h.world.chain
   pub sound : AllByRecursion IsSound h.world.chain
-  pub handed_down : AreHandedDown h.world.chain iids h.logs.downs h.logs.ups
+  pub handed_down : AllByRecursion (IsLed iids h) h.logs.ups
 
--- so it is after every list of events, whatever was lost, repeated or reordered on the link, and whatever was published,
--- offered and allowed. Each front of a list is a list, so it is so after each event
+-- The headline, in one world after its events: the editions are one chain of sound ones; each packet that was handed up from a
+-- whole frame is one that was handed down; where no wrong assembly has the RCS of a session, so is each; and in fresh runs a
+-- session is reported delivered only after it was put together
+pub record IsHeadline (params : EndParams) (events : List Event) (h : History) : Type 0 where
+  pub one_chain : IsChain h.world.chain
+  pub sound : AllByRecursion IsSound h.world.chain
+  pub whole : AllByRecursion (λ up. IsWhole up → IsLed params.iids h up) h.logs.ups
+  pub safe : IsHonest params h → IsSafe params.iids h
+  pub earned : IsHonest params h → IsFresh params events → IsEarned params h
+
+-- so it is after every list of events, whatever was lost, repeated or reordered on the link, whatever timers ran out or was given
+-- up, and whatever was published, offered and allowed. Each front of a list is a list, so it is so after each event
 abbrev pub Headline : Type 0
-Headline =
-    (params : EndParams) (events : List Event) → Fits params events → IsSafe params.iids (run events (start params))
+Headline = (params : EndParams) (events : List Event) → Fits params events → IsHeadline params events (run events (start params))
 
 -- so it is after each of these events, where they fit
 abbrev pub AlwaysSafe : EndParams → List Event → Type 0
-AlwaysSafe params events = Fits params events → (n : ℕ) → IsSafe params.iids (run (take n events) (start params))
+AlwaysSafe params events =
+    Fits params events → (n : ℕ) → IsHeadline params (take n events) (run (take n events) (start params))

@@ -3,15 +3,25 @@
 
 ghost use Rattle.two_ends.specs.Safe.{Headline};
 ghost use Rattle.two_ends.specs.Clean.{Clean};
+ghost use Rattle.two_ends.specs.Lanes.{StepsOfAWorld};
 ghost use Rattle.two_ends.specs.Offers.{Offers};
 
-/// Over every list of events, each packet that was handed up is one that was handed down earlier at
-/// the other end: the packet to which its frame's label leads.
+/// Over every list of events, each packet that a whole frame handed up is one that was handed down
+/// earlier at the other end: the packet to which its label leads. Where no assembly over which a
+/// check was made has the RCS of a session without being that session's packet, so is each packet
+/// that was handed up. In fresh runs a session is reported delivered only after it was put together.
 pub fn headline()
     ensures { Headline }
 {}
 
-/// Where nothing is lost, a packet that is handed down arrives: once, by one plain round.
+/// For each key a step of the world is steps of the key's lane: none, one, or, for a tick of both
+/// ends, two in a row, each possible where it comes.
+pub fn steps()
+    ensures { StepsOfAWorld }
+{}
+
+/// Where nothing is lost, a packet that is handed down and goes in one frame arrives: once, by one
+/// plain round.
 pub fn clean()
     ensures { Clean }
 {}

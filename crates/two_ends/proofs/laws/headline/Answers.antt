@@ -1,6 +1,6 @@
--- every event keeps that the logs are safe
-use Rattle.two_ends.proofs.KeepsLemmas.{safe-run}
+-- every event keeps what the laws of lanes need
+use Rattle.two_ends.proofs.HeadlineLemmas.{headline}
 use Rattle.two_ends.proofs.laws.headline.Goals as goal
 
 pub returns : goal.returns
-returns c params events fits = safe-run params events fits
+returns c params events fits = headline params events fits
