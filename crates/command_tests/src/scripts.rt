@@ -76,7 +76,7 @@ fn a_packet_on_the_way_down(rt: HostRuntime) -> Result<(), Fail> {
 #[test]
 fn refusals(rt: HostRuntime) -> Result<(), Fail> {
     let mut events = String::from_str(rt.alloc(), "hand 7 dev 60\nhand 7 dev 60")?;
-    push_zeros(&mut events, 242)?;
+    push_zeros(&mut events, 1500)?;
     events.push_str("\ndeliver 7 up 1\ndeliver 7 down 18446744073709551615\n")?;
     let lines =
         "1 hand 7 dev refused not-ipv6\n2 hand 7 dev refused too-long\n3 deliver 7 up 1 refused no-frame\n4 deliver 7 down 18446744073709551615 refused no-frame\n";
@@ -84,7 +84,7 @@ fn refusals(rt: HostRuntime) -> Result<(), Fail> {
     Ok(())
 }
 
-/// Editions that the chain lacks or that are no later ones, a frame that is too short for the MTU, and an edition that
+/// Editions that the chain lacks or that are no later ones, a packet that goes as a session, and an edition that
 /// is published before the device is declared.
 #[test]
 fn offers(rt: HostRuntime) -> Result<(), Fail> {
@@ -92,7 +92,7 @@ fn offers(rt: HostRuntime) -> Result<(), Fail> {
         "publish {{\"number\":1,\"rules\":[]}}\ndevice 7 0000000000000001 0000000000000002 mtu 15\noffer 7 dev 0\nallow 7 dev 1\noffer 7 dev 2\noffer 7 gw 1\nallow 7 gw 1\npublish {{\"number\":3,\"rules\":[]}}\nhand 7 dev {P40}\n"
     )?;
     let lines =
-        "1 publish ok 1\n2 offer 7 dev 0 older\n3 allow 7 dev 1 no\n4 offer 7 dev 2 refused no-edition\n5 offer 7 gw 1 adopted\n6 allow 7 gw 1 yes\n7 publish refused 14 number-not-next rule 0 entry 0\n8 hand 7 dev refused too-long\n";
+        "1 publish ok 1\n2 offer 7 dev 0 older\n3 allow 7 dev 1 no\n4 offer 7 dev 2 refused no-edition\n5 offer 7 gw 1 adopted\n6 allow 7 gw 1 yes\n7 publish refused 14 number-not-next rule 0 entry 0\n8 hand 7 dev ok edition 0 rule 22 bits 328\n";
     assert!(rt; prints(rt.alloc(), "sim", script.as_str(), Status::Ok, lines)?);
     Ok(())
 }

@@ -4,17 +4,18 @@ use Rattle.std.specs.List.{AllByRecursion}
 use Rattle.std.specs.Io.KnownBytes.{Appends}
 use Rattle.std.proofs.Math.Seq.{take-length}
 use Rattle.std.proofs.lemmas.Option.{same_Some, none-some}
+use Rattle.schc_ids.specs.Params.{IsParams}
 use Rattle.schc_ids.specs.declared.ends.EndParams.{EndParams}
 use Rattle.rule_model.specs.declared.raw.DeviceLine.{DeviceLine}
 use Rattle.event_data.specs.Events.{Event, Down, Slot, Deliver, Tick, Abort, Publish, Offer, Allow}
 use Rattle.two_ends.specs.Fits as world
 use Rattle.two_ends.specs.History.{start, run}
-use Rattle.two_ends.specs.Safe.{IsSafe}
+use Rattle.two_ends.specs.Safe.{IsHeadline}
 use Rattle.schc_bits.proofs.ListLemmas.{all-take}
-use Rattle.two_ends.proofs.KeepsLemmas.{safe-of-bytes}
+use Rattle.two_ends.proofs.HeadlineLemmas.{headline-of-bytes}
 use Rattle.rule_commands.specs.OutputData.{OutputData}
 use Rattle.script_lang.specs.ScriptData.{ScriptEventData, ScriptData}
-use Rattle.script_lang.specs.Ranges.{HandsBytes, HandBytes}
+use Rattle.script_lang.specs.Ranges.{HandsBytes, HaveParams, HandBytes}
 use Rattle.script_lang.specs.Parsing.{script_of, ParsesTo}
 use Rattle.gw_top.specs.Run.{device_run, IsSafeDevice, IsSafeRun}
 use Rattle.gw_top.specs.Output.{simulated, output_of, IsSafeFor}
@@ -22,14 +23,15 @@ use Rattle.gw_top.specs.Answers.{Call, IsRead, Completes, IsSimulated}
 use Rattle.gw_top.specs.declared.words.Command.{Command}
 use Rattle.gw_top.specs.declared.words.Command.TheVariants.{Check, Pack, Unpack, Sim}
 
--- the history after all the events is safe
-safe-whole : (params : EndParams) (events : List Event) → AllByRecursion world.HandsBytes events → IsSafe params.iids (run events (start params))
-safe-whole params events bytes =
-    subst (λ es. IsSafe params.iids (run es (start params))) (take-length events) (safe-of-bytes params events bytes (length events))
+-- the headline holds after all the events
+headline-holds : (params : EndParams) (events : List Event) → IsParams params → AllByRecursion world.HandsBytes events → IsHeadline params events (run events (start params))
+headline-holds params events range bytes =
+    subst (λ es. IsHeadline params es (run es (start params))) (take-length events) (headline-of-bytes params events range bytes (length events))
 
-safe-devices : (events : List Event) (devices : List DeviceLine) → AllByRecursion world.HandsBytes events → AllByRecursion IsSafeDevice (map (device_run events) devices)
-safe-devices events [] bytes = tt
-safe-devices events (device ∷ devices) bytes = (safe-whole device.params events bytes, safe-devices events devices bytes)
+safe-devices : (events : List Event) (devices : List DeviceLine) → HaveParams devices → AllByRecursion world.HandsBytes events → AllByRecursion (IsSafeDevice events) (map (device_run events) devices)
+safe-devices events [] range bytes = tt
+safe-devices events (device ∷ devices) range bytes =
+    (headline-holds device.params events range.0 bytes, safe-devices events devices range.1 bytes)
 
 event-bytes : (event : Event) → HandsBytes event → world.HandsBytes event
 event-bytes (Down role packet) bytes = bytes
@@ -45,16 +47,18 @@ events-bytes : (events : List ScriptEventData) → HandBytes events → AllByRec
 events-bytes [] bytes = tt
 events-bytes (e ∷ events) bytes = (event-bytes e.event bytes.0, events-bytes events bytes.1)
 
-safe-run : (script : ScriptData) → HandBytes script.events → IsSafeRun script
-safe-run script bytes = λ n. safe-devices _ script.devices (events-bytes (take n script.events) (all-take _ n script.events bytes))
+safe-run : (script : ScriptData) → HaveParams script.devices → HandBytes script.events → IsSafeRun script
+safe-run script range bytes =
+    λ n. safe-devices _ script.devices range (events-bytes (take n script.events) (all-take _ n script.events bytes))
 
 -- one result has one value
 same-ok : (x y : ScriptData) (found : Result ScriptData ℕ) → found ≡ Ok x → found ≡ Ok y → x ≡ y
 same-ok x y found first second = cc
 
 -- a text that was read as a script has a safe run
-pub safe_text : (text : List ℕ) (script : ScriptData) → ParsesTo text script → HandBytes script.events → IsSafeFor Sim text
-safe_text text script parses bytes = λ other also. subst IsSafeRun (same-ok script other (script_of text) parses also) (safe-run script bytes)
+pub safe_text : (text : List ℕ) (script : ScriptData) → ParsesTo text script → HaveParams script.devices → HandBytes script.events → IsSafeFor Sim text
+safe_text text script parses range bytes =
+    λ other also. subst IsSafeRun (same-ok script other (script_of text) parses also) (safe-run script range bytes)
 
 -- what `sim` wrote is the print of the run of the script that it read
 sim-done : (call : Call) (text : List ℕ) (found : Result ScriptData ℕ) (output : OutputData) → script_of text ≡ found → IsRead call text → simulated found ≡ Some output

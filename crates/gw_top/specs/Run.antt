@@ -11,7 +11,7 @@ use Rattle.event_data.specs.declared.outcomes.StepFault.{StepFault}
 use Rattle.event_data.specs.declared.outcomes.StepFault.TheVariants as step_fault
 use Rattle.two_ends.specs.World.{WorldData, beginning, step}
 use Rattle.two_ends.specs.History.{History, start, run}
-use Rattle.two_ends.specs.Safe.{IsSafe}
+use Rattle.two_ends.specs.Safe.{IsHeadline}
 use Rattle.script_lang.specs.ScriptData.{ScriptEventData, ScriptData}
 use Rattle.transcripts.specs.Lines.{line_text}
 
@@ -47,6 +47,10 @@ abbrev pub outcomes_from : WorldData → List ScriptEventData → List Line
 outcomes_from w [] = []
 outcomes_from w (e ∷ events) = line_of (step w e.event).1 ∷ outcomes_from (step w e.event).0 events
 
+-- the world in which nothing has happened
+unfoldable pub first_world : EndParams → WorldData
+first_world params = beginning params
+
 -- the world of a device after these events
 abbrev pub device_run : List Event → DeviceLine → DeviceRun
 device_run events device = record { device = device; history = run events (start device.params) }
@@ -56,7 +60,7 @@ abbrev pub run_of : ScriptData → RunData
 run_of script =
     record {
       devices = map (device_run (events_of script)) script.devices;
-      outcomes = outcomes_from (beginning (params_of script.devices)) script.events;
+      outcomes = outcomes_from (first_world (params_of script.devices)) script.events;
     }
 
 -- the lines of these events with these outcomes, the first of which has this place
@@ -73,11 +77,14 @@ printed script the_run = lines_from 1 script.events the_run.outcomes
 abbrev pub first_events : ℕ → ScriptData → ScriptData
 first_events n script = record script { events = take n script.events }
 
--- in a device's world each packet that was handed up is one that was handed down earlier at the other end, but for fields
--- that its rule drops, written and read by one rule of the editions published there
-abbrev pub IsSafeDevice : DeviceRun → Type 0
-IsSafeDevice one = IsSafe one.device.params.iids one.history
+-- in a device's world after these events each packet that was handed up is one that was handed down earlier at the other end,
+-- but for fields that its rule drops, written and read by one rule of the editions published there, and each session that was
+-- reported delivered was put together before: what came in one frame always, all else where the checks and the run are as the
+-- headline asks
+abbrev pub IsSafeDevice : List Event → DeviceRun → Type 0
+IsSafeDevice events one = IsHeadline one.device.params events one.history
 
 -- so it is in each device's world, after each event of the script
 abbrev pub IsSafeRun : ScriptData → Type 0
-IsSafeRun script = (n : ℕ) → AllByRecursion IsSafeDevice (run_of (first_events n script)).devices
+IsSafeRun script =
+    (n : ℕ) → let first : ScriptData = first_events n script in AllByRecursion (IsSafeDevice (events_of first)) (run_of first).devices

@@ -3,9 +3,9 @@
 ghost use Rattle.std.specs.Prelude.{◌≡◌, IfOk, OnOk, string_bytes};
 ghost use Rattle.schc_ids.specs.Params.{IsParams};
 ghost use Rattle.event_data.specs.Outcomes.{IsLineOf};
-ghost use Rattle.two_ends.specs.World.{step, beginning};
+ghost use Rattle.two_ends.specs.World.{step};
 ghost use Rattle.script_lang.specs.Ranges.{HaveParams};
-ghost use Rattle.gw_top.specs.Run.{line_of, params_of, outcomes_from, run_of, lines_from, printed};
+ghost use Rattle.gw_top.specs.Run.{line_of, params_of, first_world, outcomes_from, run_of, lines_from, printed};
 
 use event_data::{Line, StepFault};
 use rule_model::DeviceLine;
@@ -20,10 +20,13 @@ use two_ends::World;
 /// # Errors
 /// Want of memory.
 pub(crate) fn simulate(alloc: Global, script: &Script) -> Result<Vec<u8>, AllocError>
-    ensures { IfOk result (λ text. text.items ≡ printed script.now (run_of script.now)) }
+    ensures printed { IfOk result (λ text. text.items ≡ printed script.now (run_of script.now)) }
+    ensures in_range { HaveParams script.now.devices }
 {
-    let text = lines(alloc, params(script.devices()), script.events())?;
-    Ok(text.into_bytes())
+    let mut world = first_world(alloc, params(script.devices()))?;
+    let text = lines(alloc, &mut world, script.events());
+    drop(world);
+    Ok(text?.into_bytes())
 }
 
 /// The parameters of the device that is declared. Where none is, only publications happen, whose
@@ -39,15 +42,22 @@ fn params(devices: &[DeviceLine]) -> EndParams
     }
 }
 
-/// The lines of a run of these events from the beginning.
-fn lines(alloc: Global, params: EndParams, events: &[ScriptEvent]) -> Result<String, AllocError>
+/// The world in which nothing has happened.
+#[tactic(auto, unfolding(crate::specs::Run::first_world))]
+fn first_world(alloc: Global, params: EndParams) -> Result<World, AllocError>
     requires { IsParams params }
-    ensures { IfOk result (λ text. string_bytes text ≡ lines_from 1 events.now (outcomes_from (beginning params) events.now)) }
+    ensures { IfOk result (λ world. world ≡ first_world params) }
 {
-    let mut world = World::new(alloc, params)?;
+    World::new(alloc, params)
+}
+
+/// The lines of a run of these events from this world on.
+fn lines(alloc: Global, world: &mut World, events: &[ScriptEvent]) -> Result<String, AllocError>
+    ensures { IfOk result (λ text. string_bytes text ≡ lines_from 1 events.now (outcomes_from world.old events.now)) }
+{
     let mut text = String::new(alloc);
     for (index, event) in events.iter().enumerate() {
-        let said = outcome(&mut world, event)?;
+        let said = outcome(world, event)?;
         text = with_line(text, event.device, &event.event, &said, index as u64 + 1)?;
     }
     Ok(text)

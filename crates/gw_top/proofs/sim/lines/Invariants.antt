@@ -1,5 +1,4 @@
 use Rattle.std.proofs.Common.{◌≡◌, ◌+◌, ◌++◌, drop, string_bytes}
-use Rattle.two_ends.specs.World.{beginning}
 use Rattle.gw_top.specs.Run.{outcomes_from, lines_from}
 use Rattle.gw_top.proofs.sim.lines.Given as goal
 
@@ -8,4 +7,4 @@ abbrev pub invariant-loop-index : goal.invariant-loop-index
 invariant-loop-index l =
     let left = drop l.index l.events in
     string_bytes l.text ++ lines_from (l.index + 1) left (outcomes_from l.world left)
-    ≡ lines_from 1 l.events (outcomes_from (beginning l.fn.params) l.events)
+    ≡ lines_from 1 l.events (outcomes_from l.initial.world l.events)
