@@ -7,7 +7,7 @@ use schc_ids::{Note, Report};
 pub enum DownFault {
     /// It has under 40 bytes, or its first four bits aren't 6.
     NotIpv6,
-    /// It has more bytes than the end takes, or doesn't fit a frame as it is written.
+    /// It has more than 1,500 bytes.
     TooLong,
     /// Eight packets wait already.
     Full,

@@ -1,4 +1,15 @@
 //! Rule text: editions, contexts and work as JSON (RFC 8259), read and written.
+//!
+//! [`read_edition`] gives a [`RawEdition`], whose rules aren't checked yet, [`read_context`] a
+//! [`ContextFile`] of devices and editions, [`read_work`] a [`WorkFile`] of an edition and packets.
+//! Each says as a [`JsonFault`] what kept it. [`write_edition`] spells an edition that was read.
+//!
+//! ```text
+//! let context = read_context(alloc, text)?;
+//! for edition in context.editions.as_slice() {
+//!     let text = write_edition(alloc, edition)?;
+//! }
+//! ```
 #![tactic(auto)]
 
 mod context;
