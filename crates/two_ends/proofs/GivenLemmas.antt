@@ -56,7 +56,7 @@ unfolding aoe.due_in
 aoe-first s [] attempts = (all1 s, refl)
 aoe-first s (number ∷ numbers) attempts = (regular s number (run_after s number numbers).0, refl)
 
-first-message : (m : FragMode) (params : FragParams) (mtu : ℕ) (last : LastTile) (bits : List Bool) → (bytes : List ℕ) × (sender_due (sender_begun m params mtu last bits) ≡ Some bytes)
+pub first-message : (m : FragMode) (params : FragParams) (mtu : ℕ) (last : LastTile) (bits : List Bool) → (bytes : List ℕ) × (sender_due (sender_begun m params mtu last bits) ≡ Some bytes)
 unfolding sender_due sender_begun no_ack.due_message no_ack.due_in aa.due_message aa.due_in aoe.due_message aoe.due_bytes aoe.begun
 first-message mode.NoAck params mtu last bits = (_, refl)
 first-message mode.AckAlways params mtu last bits = (_, refl)

@@ -181,7 +181,7 @@ lane-honest params h key world check begun checked began session same =
     let it : padded_session params b.began ≡ padded_of (lane_params params key) begun.bits = ap (λ (k : Key). padded_of (lane_params params k) b.began.it.bits) b.its_key ∙ ap (λ (x : Begun). padded_of (lane_params params key) x.bits) b.its in
     world entry b.began (among-of_key key check h.logs.checks checked) b.there (sym b.its_key) (session ∙ ap (λ (x : Begun). Some x.place) (sym b.its)) (same ∙ ap rcs_of (sym it)) ∙ it
 
-lane-params-are : (params : EndParams) (key : Key) → IsParams params → AreLaneParams (lane_params params key)
+pub lane-params-are : (params : EndParams) (key : Key) → IsParams params → AreLaneParams (lane_params params key)
 lane-params-are params key range = record { row = row (mode_of key); in_range = range }
   where
     row : (m : FragMode) → IsFragParams (params_of m)
@@ -199,7 +199,7 @@ fill-few : (count : ℕ) → length (fill count) ≤ 7
 unfolding fill
 fill-few count = rw (length-replicate ((8 - count % 8) % 8) false) (omega arith)
 
-padding-of : (frag : FragParams) (mtu : ℕ) (bits : List Bool) → IsPaddedBy bits (padded_packet frag mtu bits)
+pub padding-of : (frag : FragParams) (mtu : ℕ) (bits : List Bool) → IsPaddedBy bits (padded_packet frag mtu bits)
 unfolding padded_packet
 padding-of frag mtu bits = record { padding = fill _; are = refl; few = fill-few _ }
 

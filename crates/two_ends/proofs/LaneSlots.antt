@@ -190,7 +190,7 @@ row Device false = refl
 row Gateway true = refl
 row Gateway false = refl
 
-new-is : (params : EndParams) (role : Role) (s : SessionsData) (bits : List Bool) → s.role ≡ role → s.params ≡ params → new_session bits s ≡ lane_session (lane_params params (sent_key role (out_key role params.acked))) s.next bits
+pub new-is : (params : EndParams) (role : Role) (s : SessionsData) (bits : List Bool) → s.role ≡ role → s.params ≡ params → new_session bits s ≡ lane_session (lane_params params (sent_key role (out_key role params.acked))) s.next bits
 unfolding new_session lane_session
 new-is params role s bits e f =
     ap (λ (r : Role). record { number = s.next; sender = sender_begun (sending_of r s.params.acked).1.mode (sending_of r s.params.acked).1 s.params.mtu s.params.last bits; left = None }) e
@@ -229,7 +229,7 @@ below k n [] placed e = tt
 below k n (b ∷ begins) placed e = (let at = placed.0 in omega (arith, at, e), below (suc k) n begins placed.1 (omega (arith, e)))
 
 -- a packet that waits and doesn't fit one frame can go as a session
-can-begin : (params : EndParams) (h : History) (role : Role) (form : Packed) → ChainKept h.world.chain → EndsKept params h.world → QueuesKept params.iids h → IsMtu params.mtu → slice_get (end_of h.world role).queue 0 ≡ Some form → fits (end_of h.world role).params.mtu form ≡ false → CanBegin form.bits
+pub can-begin : (params : EndParams) (h : History) (role : Role) (form : Packed) → ChainKept h.world.chain → EndsKept params h.world → QueuesKept params.iids h → IsMtu params.mtu → slice_get (end_of h.world role).queue 0 ≡ Some form → fits (end_of h.world role).params.mtu form ≡ false → CanBegin form.bits
 unfolding packed
 can-begin params h role form chain ends queues mtu first unfit =
     formed (slice_get h.logs.downs (first_place (at_role h.labels.queued role))) (led-first_place (IsFormOf params.iids h (sent_direction role)) (slice_get h.logs.downs) (end_of h.world role).queue (at_role h.labels.queued role) form first (queues role))

@@ -272,7 +272,7 @@ abort-world params h role ends =
 
 -- The world's step.
 
-look-up : (h : History) (direction : Direction) (number : ℕ) → FramesMarked h.world.frames h.labels.sent → numbered (frames_of h.world direction) number ≡ option_map marked_frame (numbered (at_direction h.labels.sent direction) number)
+pub look-up : (h : History) (direction : Direction) (number : ℕ) → FramesMarked h.world.frames h.labels.sent → numbered (frames_of h.world direction) number ≡ option_map marked_frame (numbered (at_direction h.labels.sent direction) number)
 look-up h direction number k = ap (λ frames. numbered frames number) (k direction) ∙ numbered-map marked_frame (at_direction h.labels.sent direction) number
 
 slot-gives : (params : EndParams) (key : Key) (h : History) (role : Role) → WorldKeeps params h → Makes params key h (slotted h role (gives_at h role)) (events_of key (length h.logs.begins) (Gives role (gives_at h role)))

@@ -20,5 +20,12 @@ pub mod LaneSteps
 pub mod KeepsLemmas
 pub mod OffersLemmas
 pub mod RestLemmas
+pub mod TalkEndLemmas
+pub mod TalkLemmas
+pub mod ComesLemmas
+pub mod TalkRoundLemmas
+pub mod TalkRunLemmas
+pub mod ModeLemmas
+pub mod TalkBeginsLemmas
 pub mod CleanLemmas
 pub mod HeadlineLemmas

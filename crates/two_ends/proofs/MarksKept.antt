@@ -108,11 +108,11 @@ begins-later iids h new g k =
 
 -- A slot.
 
-own-link : (role : Role) (id : SessionKey) (acked : Bool) → id ≡ out_key role acked → IsLinkKey (sent_key role id)
+pub own-link : (role : Role) (id : SessionKey) (acked : Bool) → id ≡ out_key role acked → IsLinkKey (sent_key role id)
 own-link Device id acked e = (acked, e)
 own-link Gateway id acked e = (acked, e)
 
-in-link : (role : Role) (id : SessionKey) (acked : Bool) → id ≡ in_key role acked → IsLinkKey (taken_key role id)
+pub in-link : (role : Role) (id : SessionKey) (acked : Bool) → id ≡ in_key role acked → IsLinkKey (taken_key role id)
 in-link Device id acked e = (acked, e)
 in-link Gateway id acked e = (acked, e)
 

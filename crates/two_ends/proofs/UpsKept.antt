@@ -301,11 +301,11 @@ fragment-up params h new key m u g ends link joins (HandsUp.part by assembly e i
     one = came-joined h.place (held_by key h.labels) (reception_at h.world key).receiver m reading assembly previewed
 
 -- an answer hands nothing up
-other-taker : (w : Direction) → taker (other_direction w) ≡ sender w
+pub other-taker : (w : Direction) → taker (other_direction w) ≡ sender w
 other-taker way.Up = refl
 other-taker way.Down = refl
 
-answer-up : (params : EndParams) (h : History) (key : Key) (m : Msg) (u : HandUpData) → EndsKept params h.world → IsLinkKey key → HandsUp (end_of h.world (sender key.way)) (marked_frame (MessageOf key m)) u → ⊥
+pub answer-up : (params : EndParams) (h : History) (key : Key) (m : Msg) (u : HandUpData) → EndsKept params h.world → IsLinkKey key → HandsUp (end_of h.world (sender key.way)) (marked_frame (MessageOf key m)) u → ⊥
 answer-up params h key m u ends link (HandsUp.whole by r reads is_up) =
     answers-unwhole (mode_of key) _ (subst (λ r. AnswersBy (mode_of key) (meaning_of r key.id.port)) (sym (ends (sender key.way)).its_role) (answers-port key link)) by
 answer-up params h key m u ends link (HandsUp.part by assembly e is_up) =

@@ -20,8 +20,9 @@ pub fn steps()
     ensures { StepsOfAWorld }
 {}
 
-/// Where nothing is lost, a packet that is handed down and goes in one frame arrives: once, by one
-/// plain round.
+/// Where nothing is lost, a packet that is handed down at a clean start arrives, once: by one plain
+/// round where it goes in one frame, else as a session, by at most one round more than it has tiles,
+/// which is reported as sent in No-ACK and as delivered in the other modes.
 pub fn clean()
     ensures { Clean }
 {}
