@@ -1,7 +1,6 @@
 -- What a line of a script tells: a device, an edition of rules that is published, or what happens to the device's two ends.
 use Rattle.std.specs.Prelude.{ℕ, ◌^◌, ◌==◌, Bool, true, if◌then◌else◌, List, [], ◌∷◌, take, drop, Option, Some, None, codes}
 use Rattle.std.specs.Option.{option_map}
-use Rattle.std.specs.List.{list_any}
 use Rattle.std.specs.Str.{bytes_eq}
 use Rattle.schc_ids.specs.declared.ends.Role.{Role}
 use Rattle.schc_ids.specs.declared.ends.Role.TheVariants.{Device, Gateway}
@@ -15,6 +14,7 @@ use Rattle.event_data.specs.Events.{Event, Down, Slot, Deliver, Tick, Abort, Pub
 use Rattle.script_lang.specs.Text.{◌>>=◌, words_of, number_of, packet_in}
 use Rattle.script_lang.specs.Devices.{device_in}
 use Rattle.script_lang.specs.ScriptData.{ScriptEventData}
+use Rattle.script_lang.specs.Ranges.{is_declared}
 use Rattle.script_lang.specs.declared.lines.Told.{Told}
 use Rattle.script_lang.specs.declared.lines.Told.TheVariants.{Nothing, Declares, Happens}
 
@@ -106,10 +106,6 @@ told_event name (x ∷ y ∷ []) =
     else None
 told_event name words = None
 
--- a device with this number is declared
-abbrev pub is_declared : List DeviceLine → ℕ → Bool
-is_declared devices number = list_any (λ (device : DeviceLine). device.number == number) devices
-
 -- the event of the device with this number that words tell, where it is declared
 unfoldable pub device_event : List DeviceLine → ℕ → List ℕ → List (List ℕ) → Option ScriptEventData
 device_event devices number name words =
@@ -137,10 +133,9 @@ abbrev pub is_passed_over : List ℕ → Bool
 is_passed_over [] = true
 is_passed_over (byte ∷ bytes) = byte == 35
 
--- a device that a line declares, where none is declared before
+-- a device that a line declares, where its number isn't declared before
 abbrev pub own_device : List DeviceLine → DeviceLine → Option Told
-own_device [] device = Some (Declares device)
-own_device (first ∷ devices) device = None
+own_device devices device = if is_declared devices device.number then None else Some (Declares device)
 
 -- what words tell: a device where they declare one, else an event
 unfoldable pub told_by_words : List DeviceLine → Option DeviceLine → List (List ℕ) → Option Told

@@ -3,5 +3,8 @@ pub mod ScriptData
 pub mod Ranges
 pub mod Devices
 pub mod Grammar
+pub mod Telling
 pub mod Parsing
 pub mod Spelling
+pub mod Writing
+pub mod Reading

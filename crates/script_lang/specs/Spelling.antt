@@ -12,7 +12,8 @@ use Rattle.rule_json.specs.Texts.{edition_of}
 use Rattle.event_data.specs.declared.events.Target.{Target}
 use Rattle.event_data.specs.declared.events.Target.TheVariants as target
 use Rattle.event_data.specs.Events.{Event, Down, Slot, Deliver, Tick, Abort, Publish, Offer, Allow}
-use Rattle.script_lang.specs.Grammar.{is_declared, told_by}
+use Rattle.script_lang.specs.Ranges.{is_declared}
+use Rattle.script_lang.specs.Grammar.{told_by}
 use Rattle.script_lang.specs.declared.lines.Told.TheVariants.{Happens}
 
 -- the word for an end

@@ -3,8 +3,25 @@
 ghost use Rattle.std.specs.Prelude.{◌≡◌, ◌==◌, map, IfOk, IfSome};
 ghost use Rattle.std.specs.Option.{option_map};
 ghost use Rattle.std.specs.List.{list_any};
-ghost use Rattle.event_data.specs.Events.{view_event, HandsBytes};
-ghost use Rattle.script_lang.specs.Grammar.{role_of, target_of, direction_of, slot_event, abort_event, tick_event, hand_event, deliver_event, end_and_edition, offer_event, allow_event, told_event, is_declared, device_event, event_in};
+ghost use Rattle.event_data.specs.Events.{view_event};
+ghost use Rattle.script_lang.specs.Ranges.{is_declared};
+ghost use Rattle.script_lang.specs.Telling.{IsOneDevices, CanHappen};
+ghost use Rattle.script_lang.specs.Grammar.{
+  role_of,
+  target_of,
+  direction_of,
+  slot_event,
+  abort_event,
+  tick_event,
+  hand_event,
+  deliver_event,
+  end_and_edition,
+  offer_event,
+  allow_event,
+  told_event,
+  device_event,
+  event_in,
+};
 
 use crate::scripts::ScriptEvent;
 use crate::text::{edition_number, number, packet, small_number};
@@ -56,7 +73,7 @@ fn direction(word: &[u8]) -> Option<Direction>
 #[tactic(auto, unfolding(crate::specs::Grammar::slot_event))]
 fn slot_event(end: &[u8]) -> Option<WorldEvent>
     ensures event { option_map view_event result ≡ slot_event end.now }
-    ensures in_range { IfSome result (λ event. HandsBytes (view_event event)) }
+    ensures in_range { IfSome result (λ event. IsOneDevices (view_event event)) }
 {
     Some(WorldEvent::Slot(role(end)?))
 }
@@ -65,7 +82,7 @@ fn slot_event(end: &[u8]) -> Option<WorldEvent>
 #[tactic(auto, unfolding(crate::specs::Grammar::abort_event))]
 fn abort_event(end: &[u8]) -> Option<WorldEvent>
     ensures event { option_map view_event result ≡ abort_event end.now }
-    ensures in_range { IfSome result (λ event. HandsBytes (view_event event)) }
+    ensures in_range { IfSome result (λ event. IsOneDevices (view_event event)) }
 {
     Some(WorldEvent::Abort(role(end)?))
 }
@@ -74,7 +91,7 @@ fn abort_event(end: &[u8]) -> Option<WorldEvent>
 #[tactic(auto, unfolding(crate::specs::Grammar::tick_event))]
 fn tick_event(ends: &[u8]) -> Option<WorldEvent>
     ensures event { option_map view_event result ≡ tick_event ends.now }
-    ensures in_range { IfSome result (λ event. HandsBytes (view_event event)) }
+    ensures in_range { IfSome result (λ event. IsOneDevices (view_event event)) }
 {
     Some(WorldEvent::Tick(target(ends)?))
 }
@@ -83,7 +100,7 @@ fn tick_event(ends: &[u8]) -> Option<WorldEvent>
 #[tactic(auto, unfolding(crate::specs::Grammar::deliver_event))]
 fn deliver_event(way: &[u8], place: &[u8]) -> Option<WorldEvent>
     ensures event { option_map view_event result ≡ deliver_event way.now place.now }
-    ensures in_range { IfSome result (λ event. HandsBytes (view_event event)) }
+    ensures in_range { IfSome result (λ event. IsOneDevices (view_event event)) }
 {
     let direction = direction(way)?;
     let place = number(place)?;
@@ -104,7 +121,7 @@ fn end_and_edition(end: &[u8], edition: &[u8]) -> Option<(Role, u32)>
 #[tactic(auto, unfolding(crate::specs::Grammar::offer_event))]
 fn offer_event(end: &[u8], edition: &[u8]) -> Option<WorldEvent>
     ensures event { option_map view_event result ≡ offer_event end.now edition.now }
-    ensures in_range { IfSome result (λ event. HandsBytes (view_event event)) }
+    ensures in_range { IfSome result (λ event. IsOneDevices (view_event event)) }
 {
     let (role, number) = end_and_edition(end, edition)?;
     Some(WorldEvent::Offer(role, number))
@@ -114,7 +131,7 @@ fn offer_event(end: &[u8], edition: &[u8]) -> Option<WorldEvent>
 #[tactic(auto, unfolding(crate::specs::Grammar::allow_event))]
 fn allow_event(end: &[u8], edition: &[u8]) -> Option<WorldEvent>
     ensures event { option_map view_event result ≡ allow_event end.now edition.now }
-    ensures in_range { IfSome result (λ event. HandsBytes (view_event event)) }
+    ensures in_range { IfSome result (λ event. IsOneDevices (view_event event)) }
 {
     let (role, number) = end_and_edition(end, edition)?;
     Some(WorldEvent::Allow(role, number))
@@ -127,7 +144,7 @@ fn allow_event(end: &[u8], edition: &[u8]) -> Option<WorldEvent>
 #[tactic(auto, unfolding(crate::specs::Grammar::hand_event))]
 fn hand_event(alloc: Global, end: &[u8], hex: &[u8]) -> Result<Option<WorldEvent>, AllocError>
     ensures event { IfOk result (λ event. option_map view_event event ≡ hand_event end.now hex.now) }
-    ensures in_range { IfOk result (λ event. IfSome event (λ e. HandsBytes (view_event e))) }
+    ensures in_range { IfOk result (λ event. IfSome event (λ e. IsOneDevices (view_event e))) }
 {
     let Some(role) = role(end) else {
         return Ok(None);
@@ -148,8 +165,9 @@ fn hand_event(alloc: Global, end: &[u8], hex: &[u8]) -> Result<Option<WorldEvent
 /// Want of memory.
 #[tactic(auto, unfolding(crate::specs::Grammar::told_event))]
 fn told_event(alloc: Global, name: &[u8], words: &[&[u8]]) -> Result<Option<WorldEvent>, AllocError>
-    ensures event { IfOk result (λ event. option_map view_event event ≡ told_event name.now (map (λ word. word.now) words.now)) }
-    ensures in_range { IfOk result (λ event. IfSome event (λ e. HandsBytes (view_event e))) }
+    ensures event { IfOk result (λ event. option_map view_event event ≡ told_event name.now
+        (map (λ word. word.now) words.now)) }
+    ensures in_range { IfOk result (λ event. IfSome event (λ e. IsOneDevices (view_event e))) }
 {
     match words {
         [x] => {
@@ -180,7 +198,8 @@ fn told_event(alloc: Global, name: &[u8], words: &[&[u8]]) -> Result<Option<Worl
     }
 }
 
-fn is_declared(devices: &[DeviceLine], number: u16) -> bool
+/// Whether a device with this number is declared.
+pub(crate) fn is_declared(devices: &[DeviceLine], number: u16) -> bool
     ensures { result ≡ is_declared devices.now number }
 {
     devices.iter().any(|device| device.number == number)
@@ -198,8 +217,9 @@ fn device_event(
     name: &[u8],
     words: &[&[u8]],
 ) -> Result<Option<ScriptEvent>, AllocError>
-    ensures event { IfOk result (λ event. event ≡ device_event devices.now device name.now (map (λ word. word.now) words.now)) }
-    ensures in_range { IfOk result (λ event. IfSome event (λ e. HandsBytes e.event)) }
+    ensures event { IfOk result (λ event. event ≡ device_event devices.now device name.now
+        (map (λ word. word.now) words.now)) }
+    ensures in_range { IfOk result (λ event. IfSome event (λ e. CanHappen devices.now e.device e.event)) }
 {
     if !is_declared(devices, device) {
         return Ok(None);
@@ -221,7 +241,7 @@ pub(crate) fn event(
     words: &[&[u8]],
 ) -> Result<Option<ScriptEvent>, AllocError>
     ensures event { IfOk result (λ event. event ≡ event_in devices.now (map (λ word. word.now) words.now)) }
-    ensures in_range { IfOk result (λ event. IfSome event (λ e. HandsBytes e.event)) }
+    ensures in_range { IfOk result (λ event. IfSome event (λ e. CanHappen devices.now e.device e.event)) }
 {
     match words {
         [name, number, rest @ ..] => match small_number(number) {

@@ -1,4 +1,6 @@
-//! Scripts: a device, editions of rules that are published, and what happens to the device's two ends.
+//! Scripts: devices, editions of rules that are published, and what happens to each device's two
+//! ends; read
+//! from text and written as text.
 #![tactic(auto)]
 
 mod devices;
@@ -10,6 +12,8 @@ mod scripts;
 #[cfg(test)]
 mod tests;
 mod text;
+mod writing;
 
-pub use parsing::{ScriptFault, parse};
+pub use parsing::{Counted, ScriptFault, parse};
 pub use scripts::{Script, ScriptEvent};
+pub use writing::write;

@@ -1,14 +1,22 @@
 //! What one line of a script tells.
 
-ghost use Rattle.std.specs.Prelude.{◌≡◌, ◌==◌, map, IfOk, IfSome};
+ghost use Rattle.std.specs.Prelude.{◌≡◌, ◌==◌, List, map, IfOk, IfSome};
 ghost use Rattle.std.specs.Option.{option_map};
-ghost use Rattle.event_data.specs.Events.{HandsBytes};
+ghost use Rattle.schc_ids.specs.Params.{IsParams};
 ghost use Rattle.script_lang.specs.Devices.{device_in};
-ghost use Rattle.script_lang.specs.Grammar.{published_text, publication, is_passed_over, own_device, told_by_words, told_by_text, told_by};
-ghost use Rattle.script_lang.specs.Parsing.{IsInRange};
+ghost use Rattle.script_lang.specs.Grammar.{
+  published_text,
+  publication,
+  is_passed_over,
+  own_device,
+  told_by_words,
+  told_by_text,
+  told_by,
+};
+ghost use Rattle.script_lang.specs.Telling.{CanHappen, IsInRange};
 
 use crate::devices::device;
-use crate::happenings::event;
+use crate::happenings::{event, is_declared};
 use crate::scripts::ScriptEvent;
 use crate::text::words;
 use event_data::WorldEvent;
@@ -39,7 +47,9 @@ fn published_text(line: &[u8]) -> Option<&[u8]>
 #[tactic(auto, unfolding(crate::specs::Grammar::publication))]
 fn publication(alloc: Global, text: &[u8]) -> Result<Option<ScriptEvent>, AllocError>
     ensures event { IfOk result (λ event. event ≡ publication text.now) }
-    ensures in_range { IfOk result (λ event. IfSome event (λ e. HandsBytes e.event)) }
+    ensures in_range { IfOk result
+        (λ event. IfSome event
+        (λ e. (devices : List DeviceLine) → CanHappen devices e.device e.event)) }
 {
     match read_edition(alloc, text) {
         Ok(edition) => Ok(Some(ScriptEvent {
@@ -72,13 +82,16 @@ pub(crate) enum Told {
     Happens(ScriptEvent),
 }
 
-/// A device that a line declares, where none is declared before.
+/// A device that a line declares, where its number isn't declared before.
 fn own_device(declared: &[DeviceLine], device: DeviceLine) -> Option<Told>
-    ensures { result ≡ own_device declared.now device }
+    requires { IsParams device.params }
+    ensures told { result ≡ own_device declared.now device }
+    ensures in_range { IfSome result (IsInRange declared.now) }
 {
-    match declared {
-        [] => Some(Told::Declares(device)),
-        [_, ..] => None,
+    if is_declared(declared, device.number) {
+        None
+    } else {
+        Some(Told::Declares(device))
     }
 }
 
@@ -92,8 +105,9 @@ fn told_by_words(
     declared: &[DeviceLine],
     words: &[&[u8]],
 ) -> Result<Option<Told>, AllocError>
-    ensures told { IfOk result (λ told. let words = map (λ word. word.now) words.now in told ≡ told_by_words declared.now (device_in words) words) }
-    ensures in_range { IfOk result (λ told. IfSome told IsInRange) }
+    ensures told { IfOk result (λ told. let words = map (λ word. word.now) words.now in told
+        ≡ told_by_words declared.now (device_in words) words) }
+    ensures in_range { IfOk result (λ told. IfSome told (IsInRange declared.now)) }
 {
     match device(words) {
         Some(device) => Ok(own_device(declared, device)),
@@ -115,7 +129,7 @@ pub(crate) fn told_line(
     line: &[u8],
 ) -> Result<Option<Told>, AllocError>
     ensures told { IfOk result (λ told. told ≡ told_by declared.now line.now) }
-    ensures in_range { IfOk result (λ told. IfSome told IsInRange) }
+    ensures in_range { IfOk result (λ told. IfSome told (IsInRange declared.now)) }
 {
     if is_passed_over(line) {
         return Ok(Some(Told::Nothing));

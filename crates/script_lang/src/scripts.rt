@@ -1,10 +1,23 @@
 //! Scripts, as values.
 
-ghost use Rattle.std.specs.Prelude.{◌≡◌, [], OnOk};
-ghost use Rattle.script_lang.specs.Ranges.{HaveParams, HandBytes};
-ghost use Rattle.script_lang.specs.Parsing.{IsInRange, with_told};
+ghost use Rattle.std.specs.Prelude.{◌≡◌, ◌<◌, ◌≤◌, ◌∷◌, ◌++◌, false, [], length, OnOk, OnErr};
+ghost use Rattle.schc_ids.specs.Params.{IsParams};
+ghost use Rattle.event_data.specs.Events.{view_event};
+ghost use Rattle.script_lang.specs.Ranges.{
+  max_devices,
+  max_events,
+  is_declared,
+  HaveParams,
+  HaveOwnNumbers,
+  HandsBytes,
+  HandBytes,
+  IsOfDeclared,
+  AreDeclared,
+  HasSpelling,
+  HaveSpellings,
+};
+ghost use Rattle.script_lang.specs.Parsing.{empty_script};
 
-use crate::lines::Told;
 use event_data::WorldEvent;
 use rule_model::DeviceLine;
 use schc_bits::ItemList;
@@ -27,7 +40,9 @@ impl Model for ScriptEvent {
     ghost view = { λ e. record { device = e.device; event = view_event e.event } };
 }
 
-/// A script: the devices that it declares, today at most one, and what happens.
+/// A script: the devices that it declares, at most 1,024 with numbers of their own, and what
+/// happens, at
+/// most 200,000 events. Each script can be spelled.
 #[derive(Drop)]
 pub struct Script {
     devices: ItemList<DeviceLine>,
@@ -35,20 +50,36 @@ pub struct Script {
 }
 
 impl Model for Script {
+    ghost use Rattle.std.specs.Prelude.{◌≤◌, length};
     ghost use Rattle.script_lang.specs.ScriptData.{ScriptData};
-    ghost use Rattle.script_lang.specs.Ranges.{HaveParams, HandBytes};
+    ghost use Rattle.script_lang.specs.Ranges.{
+      max_devices,
+      max_events,
+      HaveParams,
+      HaveOwnNumbers,
+      HandBytes,
+      AreDeclared,
+      HaveSpellings,
+    };
 
     ghost Value = { ScriptData };
 
     ghost view = { λ s. record { devices = s.devices.items; events = s.events.items } };
 
-    ghost invariant = { λ s. HaveParams s.devices.items × HandBytes s.events.items };
+    ghost invariant = { λ s.
+        HaveParams s.devices.items
+        × HaveOwnNumbers s.devices.items
+        × (length s.devices.items ≤ max_devices)
+        × HandBytes s.events.items
+        × AreDeclared s.devices.items s.events.items
+        × HaveSpellings s.events.items
+        × (length s.events.items ≤ max_events) };
 }
 
 impl Script {
-    /// The script of a text without lines.
-    pub(crate) fn empty(alloc: Global) -> Script
-        ensures { result ≡ record { devices = []; events = [] } }
+    /// The script without devices and events. It takes no memory.
+    pub fn new(alloc: Global) -> Script
+        ensures { result ≡ empty_script }
     {
         Script {
             devices: ItemList::new(alloc),
@@ -60,6 +91,8 @@ impl Script {
     pub fn devices(&self) -> &[DeviceLine]
         ensures devices { result.now ≡ self.now.devices }
         ensures in_range { HaveParams result.now }
+        ensures own_numbers { HaveOwnNumbers result.now }
+        ensures few { length result.now ≤ max_devices }
     {
         self.devices.as_slice()
     }
@@ -68,23 +101,44 @@ impl Script {
     pub fn events(&self) -> &[ScriptEvent]
         ensures events { result.now ≡ self.now.events }
         ensures in_range { HandBytes result.now }
+        ensures declared { AreDeclared self.now.devices result.now }
+        ensures spelling { HaveSpellings result.now }
+        ensures few { length result.now ≤ max_events }
     {
         self.events.as_slice()
     }
 
-    /// Adds what one more line tells.
+    /// Declares one more device.
     ///
     /// # Errors
-    /// Want of memory.
-    pub(crate) fn add(&mut self, told: Told) -> Result<(), AllocError>
-        requires { IsInRange told }
-        ensures told { OnOk result (self.new ≡ with_told self.old told) }
-        ensures in_range { HandBytes self.new.events }
+    /// Want of memory; the script is then as before.
+    pub fn declare(&mut self, line: DeviceLine) -> Result<(), AllocError>
+        requires own_number { is_declared self.old.devices line.number ≡ false }
+        requires in_range { IsParams line.params }
+        requires few { length self.old.devices < max_devices }
+        ensures declared { OnOk result (self.new ≡ record self.old { devices = self.old.devices ++ line ∷ [] }) }
+        ensures same { OnErr result (self.new ≡ self.old) }
+        ensures bytes { HandBytes self.new.events }
     {
-        match told {
-            Told::Nothing => Ok(()),
-            Told::Declares(device) => self.devices.push(device),
-            Told::Happens(event) => self.events.push(event),
-        }
+        self.devices.push(line)?;
+        Ok(())
+    }
+
+    /// Adds an event of this device, or a publication, whose device is 0.
+    ///
+    /// # Errors
+    /// Want of memory; the script is then as before.
+    pub fn add(&mut self, device: u16, event: WorldEvent) -> Result<(), AllocError>
+        requires declared { IsOfDeclared self.old.devices device (view_event event) }
+        requires bytes { HandsBytes (view_event event) }
+        requires spelling { HasSpelling (view_event event) }
+        requires few { length self.old.events < max_events }
+        ensures added { OnOk result (self.new ≡ record self.old {
+          events = self.old.events ++ record { device = device; event = view_event event } ∷ [];
+        }) }
+        ensures same { OnErr result (self.new ≡ self.old) }
+        ensures bytes { HandBytes self.new.events }
+    {
+        self.events.push(ScriptEvent { device, event })
     }
 }

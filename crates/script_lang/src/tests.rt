@@ -1,5 +1,7 @@
-//! Scripts that are read, and the first line of others that is outside the grammar.
+//! Scripts that are read and written, and the first line of others that is outside the grammar or
+//! past a limit.
 use super::*;
+use schc_bits::Octets;
 use schc_ids::{EndParams, Iids, LastTile, TimerTicks};
 use std::test::Fail;
 
@@ -35,6 +37,95 @@ fn first_bad_lines(rt: HostRuntime) -> Result<(), Fail> {
         let text = format!(in rt.alloc(); "{DEVICE}\n{line}\n")?;
         assert_eq!(rt; counts(&rt, text.as_bytes()), Err(ScriptFault::BadLine(2)));
     }
+    Ok(())
+}
+
+/// The text of a script with this many devices, one without events, and a line after them.
+fn many_devices(rt: &HostRuntime, count: u32, last: &str) -> Result<String, Fail> {
+    let mut text = String::new(rt.alloc());
+    for number in 0..count {
+        write!(text, "device {number} 0000000000000001 0000000000000002\n")?;
+    }
+    text.push_str(last)?;
+    Ok(text)
+}
+
+#[test]
+fn as_many_devices_as_may_be(rt: HostRuntime) -> Result<(), Fail> {
+    let most = many_devices(&rt, 1024, "slot 1023 gw")?;
+    assert_eq!(rt; counts(&rt, most.as_bytes()), Ok((1024, 1)));
+    let more = many_devices(&rt, 1025, "x")?;
+    let fault = Err(ScriptFault::TooMany(Counted::Devices, 1025));
+    assert_eq!(rt; counts(&rt, more.as_bytes()), fault);
+    let again = many_devices(&rt, 1024, "device 5 0000000000000001 0000000000000002")?;
+    assert_eq!(rt;
+        counts(&rt, again.as_bytes()),
+        Err(ScriptFault::BadLine(1025))
+    );
+    Ok(())
+}
+
+/// Lines of a script, with what a script may leave out.
+const LINES: [&str; 15] = [
+    "# two devices",
+    "device 7 00000000000000aB 0000000000000002 mtu 15",
+    "",
+    "hand 7 dev 0aFF",
+    "device 8 0000000000000003 000000000000000F mode noack last regular timers 1 2 3 4",
+    "slot 8 gw",
+    "publish {\"rules\": [], \"number\": 1}",
+    "tick 7 both",
+    "tick 7 dev",
+    "tick 8 gw",
+    "abort 8 dev",
+    "deliver 7 up 3",
+    "deliver 7 down 0",
+    "offer 7 gw 1",
+    "allow 8 dev 4294967295",
+];
+
+/// The lines that are written for that script.
+const WRITTEN: [&str; 13] = [
+    "device 7 00000000000000ab 0000000000000002 mtu 15 mode acked last all1 timers 10 40 40 100",
+    "device 8 0000000000000003 000000000000000f mtu 242 mode noack last regular timers 1 2 3 4",
+    "hand 7 dev 0aff",
+    "slot 8 gw",
+    "publish {\"number\":1,\"rules\":[]}",
+    "tick 7 both",
+    "tick 7 dev",
+    "tick 8 gw",
+    "abort 8 dev",
+    "deliver 7 up 3",
+    "deliver 7 down 0",
+    "offer 7 gw 1",
+    "allow 8 dev 4294967295",
+];
+
+/// The text of these lines.
+fn joined(rt: &HostRuntime, lines: &[&str]) -> Result<String, Fail> {
+    let mut text = String::new(rt.alloc());
+    for line in lines {
+        text.push_str(line)?;
+        text.push_str("\n")?;
+    }
+    Ok(text)
+}
+
+/// What is written for the script that a text is.
+fn written(rt: &HostRuntime, text: &str) -> Result<Octets, ScriptFault> {
+    let script = parse(rt.alloc(), text.as_bytes())?;
+    Ok(write(rt.alloc(), &script)?)
+}
+
+#[test]
+fn written_scripts(rt: HostRuntime) -> Result<(), Fail> {
+    let text = joined(&rt, LINES.as_slice())?;
+    let expected = joined(&rt, WRITTEN.as_slice())?;
+    let same = match written(&rt, text.as_str()) {
+        Ok(bytes) => bytes.as_slice() == expected.as_bytes(),
+        Err(_) => false,
+    };
+    assert!(rt; same);
     Ok(())
 }
 

@@ -98,6 +98,7 @@ pub(crate) fn edition_number(word: &[u8]) -> Option<u32>
 pub(crate) fn packet(alloc: Global, word: &[u8]) -> Result<Option<Vec<u8>>, AllocError>
     ensures packet { IfOk result (λ bytes. option_map (λ b. b.items) bytes ≡ packet_in word.now) }
     ensures in_range { IfOk result (λ bytes. IfSome bytes (λ b. AreBytes b.items)) }
+    ensures some { IfOk result (λ bytes. IfSome bytes (λ b. 0 < length b.items)) }
 {
     match hex::decode(alloc, word) {
         Ok(bytes) => {

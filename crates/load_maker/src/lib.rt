@@ -1,0 +1,13 @@
+//! The load of a number: a script of many devices, each of which hands down three packets that it
+//! sends up.
+#![tactic(auto)]
+
+mod draws;
+mod frames;
+mod making;
+mod packets;
+#[cfg(test)]
+mod tests;
+mod turns;
+
+pub use making::make_load;
