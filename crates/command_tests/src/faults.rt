@@ -8,6 +8,7 @@ use gw_top::{Counted, Status, run};
 use outside::{MemSink, MemSource, Read, Source};
 use std::alloc::Global;
 use std::test::Fail;
+use std::thread::Threads;
 
 /// The bytes of the first line that is printed for one packet.
 const FIRST_LINE: usize = 43;
@@ -23,13 +24,14 @@ struct Case {
 }
 
 /// Whether the run of one packet ends so, with so many bytes of its lines written, or with all.
-fn ends(alloc: Global, case: &Case) -> Result<bool, Fail> {
+fn ends<R: Threads + AllocGlobal + Sync>(rt: &R, case: &Case) -> Result<bool, Fail> {
+    let alloc = rt.alloc();
     let words = call_of(alloc, "sim")?;
     let (script, lines) = one_packet(alloc)?;
     let reads = case.failing_reads.to_vec(alloc)?;
     let mut source = MemSource::new(script.into_bytes(), reads);
     let mut sink = MemSink::new(alloc, case.room, case.failing_writes.to_vec(alloc)?)?;
-    let answer = run(alloc, words.as_slice(), &mut source, &mut sink);
+    let answer = run(rt, words.as_slice(), &mut source, &mut sink);
     let size = case.written.min(lines.as_bytes().len());
     let (expected, _) = lines.as_bytes().split_at(size);
     Ok(answer == case.status && sink.as_slice() == expected)
@@ -75,7 +77,7 @@ fn faults_of_source_and_sink(rt: HostRuntime) -> Result<(), Fail> {
         ..GOOD
     };
     for case in [second_read, third_read, no_room, one_line, first_write] {
-        assert!(rt; ends(rt.alloc(), &case)?);
+        assert!(rt; ends(&rt, &case)?);
     }
     Ok(())
 }
@@ -101,10 +103,15 @@ impl Source for Many {
 }
 
 /// How a run with these words ends on so many bytes, which are all 0 and so no script. It writes nothing.
-fn on_zeros(alloc: Global, words: &[String], size: usize) -> Result<Option<Status>, Fail> {
+fn on_zeros<R: Threads + AllocGlobal + Sync>(
+    rt: &R,
+    words: &[String],
+    size: usize,
+) -> Result<Option<Status>, Fail> {
+    let alloc = rt.alloc();
     let mut sink = MemSink::new(alloc, 4096, Vec::new(alloc))?;
     let mut source = Many { left: size };
-    let status = run(alloc, words, &mut source, &mut sink);
+    let status = run(rt, words, &mut source, &mut sink);
     if sink.as_slice().is_empty() {
         Ok(Some(status))
     } else {
@@ -114,21 +121,45 @@ fn on_zeros(alloc: Global, words: &[String], size: usize) -> Result<Option<Statu
 
 #[test]
 fn words(rt: HostRuntime) -> Result<(), Fail> {
-    let none = on_zeros(rt.alloc(), &[], 1)?;
+    let none = on_zeros(&rt, &[], 1)?;
     assert_eq!(rt; none, Some(Status::Usage(1)));
     let mut words = call_of(rt.alloc(), "sim")?;
     words.push(String::from_str(rt.alloc(), "x")?)?;
-    let two = on_zeros(rt.alloc(), words.as_slice(), 1)?;
+    let two = on_zeros(&rt, words.as_slice(), 1)?;
     assert_eq!(rt; two, Some(Status::Usage(2)));
+    Ok(())
+}
+
+/// Words outside the grammar, and the place of the first that is so.
+const BAD_WORDS: [(&str, u32); 10] = [
+    ("", 1),
+    ("run", 1),
+    ("check --workers 2", 2),
+    ("sim 2", 2),
+    ("sim --workers", 3),
+    ("sim --workers 0", 3),
+    ("sim --workers 9", 3),
+    ("sim --workers 02", 3),
+    ("sim --workers 8 --workers", 4),
+    ("--workers 2 sim", 1),
+];
+
+#[test]
+fn words_outside_the_grammar(rt: HostRuntime) -> Result<(), Fail> {
+    for (text, place) in BAD_WORDS {
+        let words = call_of(rt.alloc(), text)?;
+        let status = on_zeros(&rt, words.as_slice(), 1)?;
+        assert_eq!(rt; status, Some(Status::Usage(place)));
+    }
     Ok(())
 }
 
 #[test]
 fn the_limit(rt: HostRuntime) -> Result<(), Fail> {
     let words = call_of(rt.alloc(), "sim")?;
-    let within = on_zeros(rt.alloc(), words.as_slice(), 67_108_864)?;
-    assert_eq!(rt; within, Some(Status::BadInput(0)));
-    let past = on_zeros(rt.alloc(), words.as_slice(), 67_108_865)?;
+    let within = on_zeros(&rt, words.as_slice(), 67_108_864)?;
+    assert_eq!(rt; within, Some(Status::BadInput(1)));
+    let past = on_zeros(&rt, words.as_slice(), 67_108_865)?;
     assert_eq!(rt; past, Some(Status::Limit(Counted::Bytes, 67_108_865)));
     Ok(())
 }

@@ -7,6 +7,7 @@ use crate::scripts::P40;
 use gw_top::Status;
 use std::alloc::Global;
 use std::test::Fail;
+use std::thread::Threads;
 
 /// A UDP datagram with the bytes 00 to 17 (hex) as its data, from the device.
 const DATAGRAM: &str =
@@ -85,9 +86,9 @@ impl Run {
     }
 
     /// Whether `sim` prints these lines for the script.
-    fn is_printed(&self, alloc: Global) -> Result<bool, Fail> {
+    fn is_printed<R: Threads + AllocGlobal + Sync>(&self, rt: &R) -> Result<bool, Fail> {
         prints(
-            alloc,
+            rt,
             "sim",
             self.script.as_str(),
             Status::Ok,
@@ -174,7 +175,7 @@ fn lost_tile_is_repaired(rt: HostRuntime) -> Result<(), Fail> {
         ("slot 7 gw", "frame 2 port 20 20 answers"),
         ("deliver 7 down 2", "acked report 1 delivered"),
     ])?;
-    assert!(rt; run.is_printed(rt.alloc())?);
+    assert!(rt; run.is_printed(&rt)?);
     Ok(())
 }
 
@@ -200,7 +201,7 @@ fn answer_that_outlives_its_session(rt: HostRuntime) -> Result<(), Fail> {
         ("slot 7 dev", "frame 6 port 20 3fa3400e9f1314151617 goes 2"),
         ("deliver 7 down 1", "acked report 2 delivered"),
     ])?;
-    assert!(rt; run.is_printed(rt.alloc())?);
+    assert!(rt; run.is_printed(&rt)?);
     Ok(())
 }
 
@@ -247,7 +248,7 @@ fn edition_between_fragments(rt: HostRuntime) -> Result<(), Fail> {
         third.as_str(),
         "refused 16 meaning-changed rule 6 entry 0",
     )?;
-    assert!(rt; run.is_printed(alloc)?);
+    assert!(rt; run.is_printed(&rt)?);
     Ok(())
 }
 
@@ -287,7 +288,7 @@ fn each_tile_is_answered(rt: HostRuntime) -> Result<(), Fail> {
         ("slot 7 dev", "frame 4 port 21 c0 answers"),
         ("deliver 7 up 4", "acked report 1 delivered"),
     ])?;
-    assert!(rt; run.is_printed(rt.alloc())?);
+    assert!(rt; run.is_printed(&rt)?);
     Ok(())
 }
 
@@ -313,6 +314,6 @@ fn nothing_is_answered(rt: HostRuntime) -> Result<(), Fail> {
         ),
     ])?;
     run.joins(rt.alloc(), "deliver 7 up 4", 22, P40)?;
-    assert!(rt; run.is_printed(rt.alloc())?);
+    assert!(rt; run.is_printed(&rt)?);
     Ok(())
 }

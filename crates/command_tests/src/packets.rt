@@ -9,6 +9,7 @@ use gw_top::Status;
 use rule_model::Finding;
 use std::alloc::Global;
 use std::test::Fail;
+use std::thread::Threads;
 
 /// The packet with a checksum that isn't the right one.
 const WRONG_CHECKSUM: &str =
@@ -28,10 +29,16 @@ const NOT_DROPPABLE: Finding = Finding {
 };
 
 /// Whether `check` ends so on a context with one edition of this rule.
-fn checks(alloc: Global, rule: &str, status: Status, text: &str) -> Result<bool, Fail> {
+fn checks<R: Threads + AllocGlobal + Sync>(
+    rt: &R,
+    rule: &str,
+    status: Status,
+    text: &str,
+) -> Result<bool, Fail> {
+    let alloc = rt.alloc();
     let edition = edition(alloc, 1, rule)?;
     let context = format!(in alloc; "{{\"editions\":[{edition}]}}")?;
-    prints(alloc, "check", context.as_str(), status, text)
+    prints(rt, "check", context.as_str(), status, text)
 }
 
 #[test]
@@ -41,25 +48,26 @@ fn contexts_are_checked(rt: HostRuntime) -> Result<(), Fail> {
     let bad = refused_rule(alloc)?;
     let published = "edition 1 ok live 1 retired 0\n";
     let found = "edition 1 refused 11 not-droppable rule 5 entry 14\n";
-    assert!(rt; checks(alloc, good.as_str(), Status::Ok, published)?);
-    assert!(rt; checks(alloc, bad.as_str(), Status::Refused(NOT_DROPPABLE), found)?);
-    assert!(rt; prints(alloc, "check", "{}", Status::Ok, "")?);
-    assert!(rt; prints(alloc, "check", "[]", Status::BadInput(0), "")?);
+    assert!(rt; checks(&rt, good.as_str(), Status::Ok, published)?);
+    assert!(rt; checks(&rt, bad.as_str(), Status::Refused(NOT_DROPPABLE), found)?);
+    assert!(rt; prints(&rt, "check", "{}", Status::Ok, "")?);
+    assert!(rt; prints(&rt, "check", "[]", Status::BadInput(0), "")?);
     Ok(())
 }
 
 /// Whether the command prints these two lines for two packets on the way up, by an edition of the rules.
-fn works(
-    alloc: Global,
+fn works<R: Threads + AllocGlobal + Sync>(
+    rt: &R,
     command: &str,
     rules: &str,
     packets: (&str, &str),
     lines: (&str, &str),
 ) -> Result<bool, Fail> {
+    let alloc = rt.alloc();
     let text = work(alloc, rules, packets)?;
     let (first, second) = lines;
     let expected = format!(in alloc; "1 {first}\n2 {second}\n")?;
-    prints(alloc, command, text.as_str(), Status::Ok, expected.as_str())
+    prints(rt, command, text.as_str(), Status::Ok, expected.as_str())
 }
 
 /// Work on two packets on the way up, by an edition of the rules.
@@ -118,7 +126,7 @@ fn packets_are_written(rt: HostRuntime) -> Result<(), Fail> {
     let lines = ("rule 5 bits 28 053cafe0", whole.as_str());
     assert!(rt;
         works(
-            alloc,
+            &rt,
             "pack",
             rule_5.as_str(),
             (PACKET, WRONG_CHECKSUM),
@@ -128,7 +136,7 @@ fn packets_are_written(rt: HostRuntime) -> Result<(), Fail> {
     let lines = ("rule 6 bits 24 06cafe", "rule 7 bits 24 07cafe");
     assert!(rt;
         works(
-            alloc,
+            &rt,
             "pack",
             dropping.as_str(),
             (OTHER_FLOW, OTHER_PREFIX),
@@ -136,7 +144,7 @@ fn packets_are_written(rt: HostRuntime) -> Result<(), Fail> {
         )?
     );
     let lines = ("refused not-ipv6", "refused not-ipv6");
-    assert!(rt; works(alloc, "pack", "", ("60", ""), lines)?);
+    assert!(rt; works(&rt, "pack", "", ("60", ""), lines)?);
     Ok(())
 }
 
@@ -149,7 +157,7 @@ fn packets_are_read(rt: HostRuntime) -> Result<(), Fail> {
     let lines = (six.as_str(), seven.as_str());
     assert!(rt;
         works(
-            alloc,
+            &rt,
             "unpack",
             dropping.as_str(),
             ("06cafe", "07cafe"),
@@ -161,7 +169,7 @@ fn packets_are_read(rt: HostRuntime) -> Result<(), Fail> {
     let lines = (five.as_str(), "refused unknown-rule 6");
     assert!(rt;
         works(
-            alloc,
+            &rt,
             "unpack",
             rule_5.as_str(),
             ("053cafe0", "06cafe"),
@@ -180,13 +188,13 @@ fn residues_that_are_none(rt: HostRuntime) -> Result<(), Fail> {
         "refused bad-residue 20 size",
         "refused bad-residue 12 index",
     );
-    assert!(rt; works(alloc, "unpack", sending.as_str(), packets, lines)?);
+    assert!(rt; works(&rt, "unpack", sending.as_str(), packets, lines)?);
     let path =
         "rule 32 600000000012114020010db800000000000000000000000120010db8000000010000000000000002f0b116330012d04250020100b56162636465";
     let lines = (path, "refused unknown-rule 96");
     assert!(rt;
         works(
-            alloc,
+            &rt,
             "unpack",
             sending.as_str(),
             ("20561626364650", "60"),
@@ -204,14 +212,14 @@ fn work_with_a_finding(rt: HostRuntime) -> Result<(), Fail> {
     for command in ["pack", "unpack"] {
         assert!(rt;
             prints(
-                alloc,
+                &rt,
                 command,
                 text.as_str(),
                 Status::Refused(NOT_DROPPABLE),
                 ""
             )?
         );
-        assert!(rt; prints(alloc, command, "{}", Status::BadInput(0), "")?);
+        assert!(rt; prints(&rt, command, "{}", Status::BadInput(0), "")?);
     }
     Ok(())
 }

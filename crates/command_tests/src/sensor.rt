@@ -163,14 +163,6 @@ fn said(alloc: Global) -> Result<String, Fail> {
 fn sensors_day(rt: HostRuntime) -> Result<(), Fail> {
     let script = script(rt.alloc())?;
     let said = said(rt.alloc())?;
-    assert!(rt;
-        prints(
-            rt.alloc(),
-            "sim",
-            script.as_str(),
-            Status::Ok,
-            said.as_str()
-        )?
-    );
+    assert!(rt; prints(&rt, "sim", script.as_str(), Status::Ok, said.as_str())?);
     Ok(())
 }

@@ -1,77 +1,92 @@
--- Which events have no such frame, or no such edition, as their outcome.
+-- The line that an event has as its outcome is one of the event's.
 use Rattle.std.proofs.Common.{◌≡◌, ℕ, Option, Some, None, Result, Ok, Err}
+use Rattle.rule_model.specs.declared.finding.Finding.{Finding}
 use Rattle.schc_ids.specs.declared.ends.Role.{Role}
 use Rattle.schc_ids.specs.declared.ends.Direction.{Direction}
 use Rattle.editions.specs.Data.{EditionData}
-use Rattle.rule_model.specs.declared.finding.Finding.{Finding}
 use Rattle.event_data.specs.Records.{FrameData}
 use Rattle.event_data.specs.Events.{Event, Down, Slot, Deliver, Tick, Abort, Publish, Offer, Allow}
-use Rattle.event_data.specs.Outcomes.{IsLineOf}
+use Rattle.event_data.specs.Outcomes.{IsHandLine, IsDeliverLine, IsPublishLine, IsOfferLine, IsLineOf}
 use Rattle.event_data.specs.declared.events.Target.{Target}
 use Rattle.event_data.specs.declared.events.Target.TheVariants as target
-use Rattle.event_data.specs.declared.outcomes.Line.TheVariants.{NoFrame, NoEdition}
-use Rattle.event_data.specs.declared.outcomes.StepFault.{StepFault}
-use Rattle.event_data.specs.declared.outcomes.StepFault.TheVariants.{NoSuchFrame, NoSuchEdition}
-use Rattle.end_core.specs.Data.{EndData}
-use Rattle.end_core.specs.Events as at_end
-use Rattle.two_ends.specs.World.{WorldData, step, end_event, answered, deliver_step, tick_step, publish_step, offer_step}
+use Rattle.event_data.specs.declared.outcomes.Accepted.{Accepted}
+use Rattle.event_data.specs.declared.outcomes.DownFault.{DownFault}
+use Rattle.event_data.specs.declared.outcomes.Line.{Line}
+use Rattle.event_data.specs.declared.outcomes.Line.TheVariants as line
+use Rattle.event_data.specs.declared.outcomes.Taken.{Taken}
+use Rattle.end_core.specs.EndStep.{end_step}
+use Rattle.two_ends.specs.World.{WorldData, step, end_event, answered, hand_line, deliver_step, tick_step, publish_step, offer_step}
+use Rattle.gw_top.specs.Run.{line_of}
+use Rattle.gw_top.specs.Shares.{IsSaid}
 
--- what an end answers is an outcome
-answered-outcome : (w : WorldData) (role : Role) (new : EndData) (o : at_end.Outcome) (fault : StepFault) → (answered w role new o).1 ≡ Err fault → ⊥
-unfolding answered
-answered-outcome w role new (at_end.Handed answer) fault e = absurd (cc)
-answered-outcome w role new (at_end.Sent emitted) fault e = absurd (cc)
-answered-outcome w role new (at_end.Took taken) fault e = absurd (cc)
-answered-outcome w role new (at_end.Ticked report) fault e = absurd (cc)
-answered-outcome w role new (at_end.Aborted report) fault e = absurd (cc)
-answered-outcome w role new (at_end.Answered offered) fault e = absurd (cc)
-answered-outcome w role new (at_end.Allowed allowed) fault e = absurd (cc)
+refusal-said : (event : Event) (fault : DownFault) → IsLineOf event (line.HandRefused fault) → IsSaid (line.HandRefused fault)
+refusal-said (Down role packet) fault of = of
+refusal-said (Slot role) fault of = absurd of
+refusal-said (Deliver direction number) fault of = absurd of
+refusal-said (Tick at) fault of = absurd of
+refusal-said (Abort role) fault of = absurd of
+refusal-said (Publish raw) fault of = absurd of
+refusal-said (Offer role number) fault of = absurd of
+refusal-said (Allow role number) fault of = absurd of
 
-end-outcome : (w : WorldData) (role : Role) (event : at_end.EndEvent) (fault : StepFault) → (end_event w role event).1 ≡ Err fault → ⊥
-unfolding end_event
-end-outcome w role event fault e = answered-outcome w role _ _ fault e
+taken-said : (event : Event) (taken : Taken) → IsLineOf event (line.Deliver taken) → IsSaid (line.Deliver taken)
+taken-said (Down role packet) taken of = absurd of
+taken-said (Slot role) taken of = absurd of
+taken-said (Deliver direction number) taken of = of
+taken-said (Tick at) taken of = absurd of
+taken-said (Abort role) taken of = absurd of
+taken-said (Publish raw) taken of = absurd of
+taken-said (Offer role number) taken of = absurd of
+taken-said (Allow role number) taken of = absurd of
 
-tick-outcome : (w : WorldData) (at : Target) (fault : StepFault) → (tick_step w at).1 ≡ Err fault → ⊥
-unfolding tick_step
-tick-outcome w target.Device fault e = end-outcome w _ _ fault e
-tick-outcome w target.Gateway fault e = end-outcome w _ _ fault e
-tick-outcome w target.Both fault e = absurd (cc)
+-- a line of an event doesn't tell of want of memory
+pub said : (event : Event) (l : Line) → IsLineOf event l → IsSaid l
+said event (line.Hand accepted) of = tt
+said event (line.HandRefused fault) of = refusal-said event fault of
+said event (line.Slot emission) of = tt
+said event (line.Deliver taken) of = taken-said event taken of
+said event (line.Tick device gateway) of = tt
+said event (line.Abort report) of = tt
+said event (line.Published number) of = tt
+said event (line.Refused finding) of = tt
+said event (line.Offer answer) of = tt
+said event (line.Allow written) of = tt
+said event line.NoFrame of = tt
+said event line.NoEdition of = tt
 
-publish-outcome : (w : WorldData) (made : Result EditionData Finding) (fault : StepFault) → (publish_step w made).1 ≡ Err fault → ⊥
+hand-fits : (answer : Result Accepted DownFault) → IsSaid (hand_line answer) → IsHandLine (hand_line answer)
+hand-fits (Ok accepted) is = tt
+hand-fits (Err fault) is = is
+
+deliver-fits : (w : WorldData) (way : Direction) (number : ℕ) (o : Option FrameData) → IsSaid (line_of (deliver_step w way number o).1) → IsDeliverLine (line_of (deliver_step w way number o).1)
+unfolding deliver_step end_event end_step answered
+deliver-fits w way number None is = tt
+deliver-fits w way number (Some frame) is = is
+
+tick-fits : (w : WorldData) (at : Target) → IsLineOf (Tick at) (line_of (tick_step w at).1)
+unfolding tick_step end_event end_step answered
+tick-fits w target.Device = tt
+tick-fits w target.Gateway = tt
+tick-fits w target.Both = tt
+
+publish-fits : (w : WorldData) (made : Result EditionData Finding) → IsPublishLine (line_of (publish_step w made).1)
 unfolding publish_step
-publish-outcome w (Ok edition) fault e = absurd (cc)
-publish-outcome w (Err finding) fault e = absurd (cc)
+publish-fits w (Ok edition) = tt
+publish-fits w (Err finding) = tt
 
-offer-fault : (w : WorldData) (role : Role) (number sought : ℕ) (o : Option EditionData) → (offer_step w role number o).1 ≡ Err (NoSuchFrame sought) → ⊥
-unfolding offer_step
-offer-fault w role number sought None e = absurd (cc)
-offer-fault w role number sought (Some edition) e = end-outcome w _ _ _ e
+offer-fits : (w : WorldData) (role : Role) (number : ℕ) (o : Option EditionData) → IsOfferLine (line_of (offer_step w role number o).1)
+unfolding offer_step end_event end_step answered
+offer-fits w role number None = tt
+offer-fits w role number (Some edition) = tt
 
--- only a frame that is delivered may be missing
-pub frame_missing : (w : WorldData) (event : Event) (sought : ℕ) → (step w event).1 ≡ Err (NoSuchFrame sought) → IsLineOf event NoFrame
-unfolding step
-frame_missing w (Down role packet) sought e = absurd (end-outcome w _ _ _ e)
-frame_missing w (Slot role) sought e = absurd (end-outcome w _ _ _ e)
-frame_missing w (Deliver direction number) sought e = tt
-frame_missing w (Tick at) sought e = absurd (tick-outcome w _ _ e)
-frame_missing w (Abort role) sought e = absurd (end-outcome w _ _ _ e)
-frame_missing w (Publish raw) sought e = absurd (publish-outcome w _ _ e)
-frame_missing w (Offer role number) sought e = absurd (offer-fault w _ _ _ _ e)
-frame_missing w (Allow role number) sought e = absurd (end-outcome w _ _ _ e)
-
-deliver-fault : (w : WorldData) (way : Direction) (number sought : ℕ) (o : Option FrameData) → (deliver_step w way number o).1 ≡ Err (NoSuchEdition sought) → ⊥
-unfolding deliver_step
-deliver-fault w way number sought None e = absurd (cc)
-deliver-fault w way number sought (Some frame) e = end-outcome w _ _ _ e
-
--- only an edition that is offered may be missing
-pub edition_missing : (w : WorldData) (event : Event) (sought : ℕ) → (step w event).1 ≡ Err (NoSuchEdition sought) → IsLineOf event NoEdition
-unfolding step
-edition_missing w (Down role packet) sought e = absurd (end-outcome w _ _ _ e)
-edition_missing w (Slot role) sought e = absurd (end-outcome w _ _ _ e)
-edition_missing w (Deliver direction number) sought e = absurd (deliver-fault w _ _ _ _ e)
-edition_missing w (Tick at) sought e = absurd (tick-outcome w _ _ e)
-edition_missing w (Abort role) sought e = absurd (end-outcome w _ _ _ e)
-edition_missing w (Publish raw) sought e = absurd (publish-outcome w _ _ e)
-edition_missing w (Offer role number) sought e = tt
-edition_missing w (Allow role number) sought e = absurd (end-outcome w _ _ _ e)
+-- the outcome of an event is one of the event's, if it doesn't tell of want of memory
+pub fits : (w : WorldData) (event : Event) → IsSaid (line_of (step w event).1) → IsLineOf event (line_of (step w event).1)
+unfolding step end_event end_step answered
+fits w (Down role packet) is = hand-fits _ is
+fits w (Slot role) is = tt
+fits w (Deliver way number) is = deliver-fits w way number _ is
+fits w (Tick at) is = tick-fits w at
+fits w (Abort role) is = tt
+fits w (Publish raw) is = publish-fits w _
+fits w (Offer role number) is = offer-fits w role number _
+fits w (Allow role number) is = tt

@@ -1,5 +1,5 @@
 -- What `run` answers, and what it did to its source and its sink.
-use Rattle.std.specs.Prelude.{◌≡◌, ◌↔◌, ℕ, ◌+◌, ◌<◌, ◌≤◌, ◌⊎◌, nat_lt, if◌then◌else◌, List, length, take, map, String, string_bytes, Option, Some, None, Ok, Err}
+use Rattle.std.specs.Prelude.{◌≡◌, ◌↔◌, ℕ, ◌+◌, ◌<◌, ◌≤◌, ◌⊎◌, nat_lt, if◌then◌else◌, List, length, take, map, String, string_bytes, Option, Some, None, Result, Ok, Err}
 use Rattle.std.specs.Io.KnownBytes.{Consumes, Appends, Keeps, IsAtEnd}
 use Rattle.outside.specs.Counting.{Rose}
 use Rattle.outside.specs.States.{SourceState, SinkState}
@@ -14,7 +14,10 @@ use Rattle.gw_top.specs.Output.{output_of}
 use Rattle.gw_top.specs.Words.{command_of}
 use Rattle.gw_top.specs.declared.words.Command.{Command}
 use Rattle.gw_top.specs.declared.words.Command.TheVariants.{Check, Pack, Unpack, Sim}
-use Rattle.gw_top.specs.declared.status.Counted.TheVariants.{Bytes}
+use Rattle.script_lang.specs.declared.parsing.Counted.{Counted}
+use Rattle.script_lang.specs.declared.parsing.Counted.TheVariants.{Bytes}
+use Rattle.script_lang.specs.declared.parsing.ScriptFault.{ScriptFault}
+use Rattle.script_lang.specs.declared.parsing.ScriptFault.TheVariants.{BadLine, TooMany, Memory}
 use Rattle.gw_top.specs.declared.status.Status.{Status}
 use Rattle.gw_top.specs.declared.status.Status.TheVariants as status
 
@@ -54,14 +57,14 @@ pub record IsOutputOf (call : Call) (output : OutputData) : Type 0 where
   pub named : command_of call.words ≡ Ok command
   pub text : List ℕ
   pub read : IsRead call text
-  pub means : output_of command text ≡ Some output
+  pub means : output_of command text ≡ Ok output
 
 -- the source was read to its end, the command makes this of the text without a finding, and all of it was written
 pub record WritesAll (command : Command) (call : Call) : Type 0 where
   pub text : List ℕ
   pub read : IsRead call text
   pub output : OutputData
-  pub means : output_of command text ≡ Some output
+  pub means : output_of command text ≡ Ok output
   pub no_finding : output.refused ≡ None
   pub written : Appends call.sink.written call.sink_after.written output.text
 
@@ -79,7 +82,7 @@ abbrev pub Completes : Command → Call → Type 0
 Completes Check call = WritesAll Check call
 Completes Pack call = WritesAll Pack call
 Completes Unpack call = WritesAll Unpack call
-Completes Sim call = IsSimulated call
+Completes (Sim workers) call = IsSimulated call
 
 -- the words name a command, which is done
 pub record IsDone (call : Call) : Type 0 where
@@ -106,13 +109,13 @@ pub record IsRefused (call : Call) (finding : Finding) : Type 0 where
   pub all_or_fault : (length output.text ≤ size) ⊎ Rose call.sink.faults call.sink_after.faults
   pub written : Appends call.sink.written call.sink_after.written (take size output.text)
 
--- the words name a command, the source was read to its end, and the text is outside the command's grammar
-pub record IsOutsideGrammar (call : Call) : Type 0 where
+-- the words name a command, the source was read to its end, and for this fault the text is no input of the command
+pub record IsNoInput (call : Call) (fault : ScriptFault) : Type 0 where
   pub command : Command
   pub named : command_of call.words ≡ Ok command
   pub text : List ℕ
   pub read : IsRead call text
-  pub no_output : output_of command text ≡ None
+  pub no_output : output_of command text ≡ Err fault
 
 -- the source has more bytes than the limit, of which one more than the limit was read
 pub record IsTooLong (call : Call) : Type 0 where
@@ -120,6 +123,12 @@ pub record IsTooLong (call : Call) : Type 0 where
   pub front : List ℕ
   pub one_more : length front ≡ max_input + 1
   pub consumed : Consumes call.source.left call.source_after.left front
+
+-- what is counted is the bytes of the source, of which it has too many, or the devices or events of a script, of which a line
+-- makes one too many, where no earlier line is outside the grammar
+abbrev pub IsPastLimit : Counted → ℕ → Call → Type 0
+IsPastLimit counted number call =
+    ((counted ≡ Bytes) × (number ≡ max_input + 1) × NamesCommand call × IsTooLong call) ⊎ IsNoInput call (TooMany counted number)
 
 -- no more than this number of bytes was read, the first ones, and nothing was written
 pub record ReadsFront (call : Call) (most : ℕ) : Type 0 where
@@ -138,22 +147,27 @@ abbrev pub Answers : Status → Call → Type 0
 Answers status.Ok call = IsDone call
 Answers (status.Refused finding) call = IsRefused call finding
 Answers (status.Usage place) call = (command_of call.words ≡ Err place) × TouchesNothing call
-Answers (status.BadInput line) call = (line ≡ 0) × IsOutsideGrammar call × Keeps call.sink.written call.sink_after.written
+Answers (status.BadInput line) call = IsNoInput call (BadLine line) × Keeps call.sink.written call.sink_after.written
 Answers status.ReadFault call =
     NamesCommand call × Rose call.source.faults call.source_after.faults × ReadsFront call max_input
 Answers status.WriteFault call = Rose call.sink.faults call.sink_after.faults × WritesFront call
 Answers status.Memory call = NamesCommand call × ReadsFront call (max_input + 1)
-Answers (status.Limit counted number) call =
-    (counted ≡ Bytes) × (number ≡ max_input + 1) × NamesCommand call × IsTooLong call × Keeps call.sink.written call.sink_after.written
+Answers (status.Limit counted number) call = IsPastLimit counted number call × Keeps call.sink.written call.sink_after.written
 
 -- the status for what a command makes of its input, want of memory and faults aside
 abbrev pub status_with : Option Finding → Status
 status_with None = status.Ok
 status_with (Some finding) = status.Refused finding
 
-abbrev pub status_of : Option OutputData → Status
-status_of None = status.BadInput 0
-status_of (Some output) = status_with output.refused
+-- the status for an input that is none for its command
+abbrev pub fault_status : ScriptFault → Status
+fault_status (BadLine line) = status.BadInput line
+fault_status (TooMany counted number) = status.Limit counted number
+fault_status Memory = status.Memory
+
+abbrev pub status_of : Result OutputData ScriptFault → Status
+status_of (Ok output) = status_with output.refused
+status_of (Err fault) = fault_status fault
 
 -- the same for a text, by its length first
 abbrev pub expected : Command → List ℕ → Status

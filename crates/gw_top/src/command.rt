@@ -1,20 +1,22 @@
-//! The commands without threads.
+//! The commands.
 
-ghost use Rattle.std.specs.Prelude.{◌≤◌};
+ghost use Rattle.std.specs.Prelude.{◌≡◌, ◌≤◌};
 ghost use Rattle.gw_top.specs.Answers.{call, Answers, IsComplete, IsUsage};
 
 use crate::output::output_for;
-use crate::status::{Counted, Status};
+use crate::status::Status;
 use crate::words::command_in;
 use outside::{ReadAllFault, Sink, Source, read_all, write_all};
 use schc_ids::limits::MAX_INPUT;
+use script_lang::{Counted, ScriptFault};
 use std::alloc::Global;
+use std::thread::Threads;
 
 /// Runs the command that the words name: `check` reads a context, and writes a line for each of its editions; `pack`
 /// and `unpack` read a work file, and write a line for each of its packets; `sim` reads a script, and writes a line for
-/// each of its events.
-pub fn run<S: Source, K: Sink>(
-    alloc: Global,
+/// each of its events. What is written doesn't depend on the number of workers.
+pub fn run<R: Threads + AllocGlobal + Sync, S: Source, K: Sink>(
+    rt: &R,
     words: &[String],
     input: &mut S,
     output: &mut K,
@@ -27,6 +29,7 @@ pub fn run<S: Source, K: Sink>(
     ensures reads { (S.state input.old).faults ≤ (S.state input.new).faults }
     ensures writes { (K.state output.old).faults ≤ (K.state output.new).faults }
 {
+    let alloc = rt.alloc();
     let command = match command_in(words) {
         Ok(command) => command,
         Err(place) => return Status::Usage(place),
@@ -37,10 +40,11 @@ pub fn run<S: Source, K: Sink>(
         Err(ReadAllFault::TooLong) => return Status::Limit(Counted::Bytes, MAX_INPUT as u64 + 1),
         Err(ReadAllFault::Memory) => return Status::Memory,
     };
-    let made = match output_for(alloc, command, text.as_slice()) {
-        Ok(Some(made)) => made,
-        Ok(None) => return Status::BadInput(0),
-        Err(_) => return Status::Memory,
+    let made = match output_for(rt, alloc, command, text.as_slice()) {
+        Ok(made) => made,
+        Err(ScriptFault::BadLine(number)) => return Status::BadInput(number),
+        Err(ScriptFault::TooMany(counted, number)) => return Status::Limit(counted, number),
+        Err(ScriptFault::Memory) => return Status::Memory,
     };
     match write_all(output, made.text.as_slice()) {
         Ok(()) => match made.refused {

@@ -2,10 +2,15 @@
 #![tactic(auto)]
 
 mod command;
+mod groups;
+mod merging;
 mod output;
+mod queues;
+mod shares;
 mod sim;
 mod status;
 mod words;
 
 pub use command::run;
-pub use status::{Counted, Status};
+pub use script_lang::Counted;
+pub use status::Status;

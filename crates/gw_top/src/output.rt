@@ -1,7 +1,7 @@
 //! What a command makes of its input.
 
-ghost use Rattle.std.specs.Prelude.{◌≡◌, ◌≢◌, Err, IfOk, IfSome, OnOk, OnErr};
-ghost use Rattle.std.specs.Result.{result_ok};
+ghost use Rattle.std.specs.Prelude.{◌≡◌, ◌≢◌, ◌⊎◌, Ok, Err, IfOk, IfErr, IsErr};
+ghost use Rattle.gw_top.specs.Words.{AreWorkers, IsInLimits};
 ghost use Rattle.gw_top.specs.Output.{output_of, IsSafeFor};
 
 use crate::sim::simulate;
@@ -9,54 +9,68 @@ use crate::words::Command;
 use rule_commands::{Output, check, pack, unpack};
 use rule_json::JsonFault;
 use script_lang::{ScriptFault, parse};
-use std::alloc::{AllocError, Global};
+use std::alloc::Global;
+use std::thread::Threads;
 
-/// What `sim` prints for a script, or `None` where the text is none.
-#[tactic(auto, unfolding(crate::specs::Output::output_of))]
-fn sim_output(alloc: Global, text: &[u8]) -> Result<Option<Output>, AllocError>
-    ensures output { IfOk result (λ output. output ≡ output_of Command.Sim text.now) }
-    ensures safe { IfOk result (λ output. IfSome output (λ _. IsSafeFor Command.Sim text.now)) }
-{
-    match parse(alloc, text) {
-        Ok(script) => Ok(Some(Output {
-            text: simulate(alloc, &script)?,
-            refused: None,
-        })),
-        Err(ScriptFault::BadLine(_)) => Ok(None),
-        Err(ScriptFault::Memory) => Err(AllocError),
-    }
-}
-
-/// The output, or `None` where the input couldn't be read.
-fn where_read(made: Result<Output, JsonFault>) -> Result<Option<Output>, AllocError>
-    ensures done { IfOk result (λ output. output ≡ result_ok made) }
-    ensures memory { OnErr result (made ≡ Err JsonFault.Memory) }
-    ensures other { OnOk result (made ≢ Err JsonFault.Memory) }
-{
-    match made {
-        Ok(output) => Ok(Some(output)),
-        Err(JsonFault::Memory) => Err(AllocError),
-        Err(_) => Ok(None),
-    }
-}
-
-/// The output of the command for an input; `None` where the input is outside the command's grammar.
+/// What `sim` prints for a script, which so many workers run.
 ///
 /// # Errors
-/// Want of memory.
+/// Why the text is no script, and want of memory.
 #[tactic(auto, unfolding(crate::specs::Output::output_of))]
-pub(crate) fn output_for(
+fn sim_output<R: Threads + Sync>(
+    rt: &R,
+    alloc: Global,
+    workers: usize,
+    text: &[u8],
+) -> Result<Output, ScriptFault>
+    requires { AreWorkers workers }
+    ensures output { IfOk result (λ output. output_of (Command.Sim workers) text.now ≡ Ok output) }
+    ensures fault { IfErr result (λ fault. (fault ≡ ScriptFault.Memory) ⊎ (output_of (Command.Sim workers) text.now ≡ Err fault)) }
+    ensures safe { IfOk result (λ _. IsSafeFor (Command.Sim workers) text.now) }
+{
+    let script = parse(alloc, text)?;
+    let lines = simulate(rt, alloc, workers, &script)?;
+    Ok(Output {
+        text: lines,
+        refused: None,
+    })
+}
+
+/// The output for a text in which lines are not told apart.
+///
+/// # Errors
+/// `BadLine(0)` where the text couldn't be read, and want of memory.
+fn unless_bad(made: Result<Output, JsonFault>) -> Result<Output, ScriptFault>
+    ensures output { IfOk result (λ output. made ≡ Ok output) }
+    ensures fault { IfErr result (λ fault. (fault ≡ ScriptFault.Memory) ⊎ ((fault ≡ ScriptFault.BadLine 0) × (made ≢ Err JsonFault.Memory) × IsErr made)) }
+{
+    match made {
+        Ok(output) => Ok(output),
+        Err(JsonFault::Memory) => Err(ScriptFault::Memory),
+        Err(_) => Err(ScriptFault::BadLine(0)),
+    }
+}
+
+/// The output of the command for an input.
+///
+/// # Errors
+/// Why the input is none for the command, and want of memory.
+#[tactic(auto, unfolding(crate::specs::Output::output_of))]
+pub(crate) fn output_for<R: Threads + Sync>(
+    rt: &R,
     alloc: Global,
     command: Command,
     text: &[u8],
-) -> Result<Option<Output>, AllocError>
-    ensures output { IfOk result (λ output. output ≡ output_of command text.now) }
-    ensures safe { IfOk result (λ output. IfSome output (λ _. IsSafeFor command text.now)) }
+) -> Result<Output, ScriptFault>
+    requires { IsInLimits command }
+    ensures output { IfOk result (λ output. output_of command text.now ≡ Ok output) }
+    ensures fault { IfErr result (λ fault. (fault ≡ ScriptFault.Memory) ⊎ (output_of command text.now ≡ Err fault)) }
+    ensures safe { IfOk result (λ _. IsSafeFor command text.now) }
 {
     match command {
-        Command::Check => where_read(check(alloc, text)),
-        Command::Pack => where_read(pack(alloc, text)),
-        Command::Unpack => where_read(unpack(alloc, text)),
-        Command::Sim => sim_output(alloc, text),
+        Command::Check => unless_bad(check(alloc, text)),
+        Command::Pack => unless_bad(pack(alloc, text)),
+        Command::Unpack => unless_bad(unpack(alloc, text)),
+        Command::Sim(workers) => sim_output(rt, alloc, workers, text),
     }
 }

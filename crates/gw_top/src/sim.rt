@@ -1,80 +1,86 @@
 //! The run of a script, as it is printed.
 
-ghost use Rattle.std.specs.Prelude.{◌≡◌, IfOk, OnOk, string_bytes};
-ghost use Rattle.schc_ids.specs.Params.{IsParams};
-ghost use Rattle.event_data.specs.Outcomes.{IsLineOf};
-ghost use Rattle.two_ends.specs.World.{step};
-ghost use Rattle.script_lang.specs.Ranges.{HaveParams};
-ghost use Rattle.gw_top.specs.Run.{line_of, params_of, first_world, outcomes_from, run_of, lines_from, printed};
+ghost use Rattle.std.specs.Prelude.{◌≡◌, [], IfOk, string_bytes};
+ghost use Rattle.std.specs.List.{AllByRecursion};
+ghost use Rattle.script_lang.specs.Ranges.{HaveParams, HandBytes, HaveOwnNumbers};
+ghost use Rattle.gw_top.specs.Run.{outcomes_after, run_of, lines_from, printed};
+ghost use Rattle.gw_top.specs.Words.{AreWorkers};
+ghost use Rattle.gw_top.specs.Shares.{IsSaid, AreLinesOf};
+ghost use Rattle.gw_top.specs.Merging.{IsOwned};
 
-use event_data::{Line, StepFault};
+use crate::groups::shared;
+use crate::merging::{by_device, merged};
+use crate::shares::publications;
+use event_data::Line;
 use rule_model::DeviceLine;
-use schc_ids::{EndParams, Iids};
 use script_lang::{Script, ScriptEvent};
 use std::alloc::{AllocError, Global};
+use std::thread::Threads;
 use transcripts::with_line;
-use two_ends::World;
 
-/// What is printed for a script: a line for each event of its run.
+/// The outcomes of these events of these devices, in the script's order, made by so many workers.
 ///
 /// # Errors
 /// Want of memory.
-pub(crate) fn simulate(alloc: Global, script: &Script) -> Result<Vec<u8>, AllocError>
-    ensures printed { IfOk result (λ text. text.items ≡ printed script.now (run_of script.now)) }
-    ensures in_range { HaveParams script.now.devices }
+#[tactic(auto, using(crate::proofs::RunLemmas::outcomes_fit))]
+fn outcomes<R: Threads + Sync>(
+    rt: &R,
+    alloc: Global,
+    workers: usize,
+    devices: &[DeviceLine],
+    events: &[ScriptEvent],
+) -> Result<Vec<Line>, AllocError>
+    requires workers { AreWorkers workers }
+    requires params { HaveParams devices.now }
+    requires numbers { HaveOwnNumbers devices.now }
+    requires owned { AllByRecursion (IsOwned devices.now) events.now }
+    ensures lines { IfOk result (λ lines. lines.items ≡ outcomes_after devices.now [] events.now) }
+    ensures fit { IfOk result (λ lines. AreLinesOf events.now lines.items) }
 {
-    let mut world = first_world(alloc, params(script.devices()))?;
-    let text = lines(alloc, &mut world, script.events());
-    drop(world);
-    Ok(text?.into_bytes())
+    let mut published = publications(alloc, events)?;
+    let shares = shared(rt, alloc, workers, devices, events)?;
+    let mut left = by_device(alloc, shares)?;
+    merged(alloc, devices, &mut left, &mut published, events)
 }
 
-/// The parameters of the device that is declared. Where none is, only publications happen, whose
-/// outcomes don't depend on a device.
-fn params(devices: &[DeviceLine]) -> EndParams
-    requires { HaveParams devices.now }
-    ensures params { result ≡ params_of devices.now }
-    ensures in_range { IsParams result }
-{
-    match devices {
-        [device, ..] => device.params,
-        [] => EndParams::with_defaults(Iids { dev: 0, app: 0 }),
-    }
-}
-
-/// The world in which nothing has happened.
-#[tactic(auto, unfolding(crate::specs::Run::first_world))]
-fn first_world(alloc: Global, params: EndParams) -> Result<World, AllocError>
-    requires { IsParams params }
-    ensures { IfOk result (λ world. world ≡ first_world params) }
-{
-    World::new(alloc, params)
-}
-
-/// The lines of a run of these events from this world on.
-fn lines(alloc: Global, world: &mut World, events: &[ScriptEvent]) -> Result<String, AllocError>
-    ensures { IfOk result (λ text. string_bytes text ≡ lines_from 1 events.now (outcomes_from world.old events.now)) }
+/// The lines of these events with these outcomes.
+///
+/// # Errors
+/// Want of memory.
+fn printed_lines(
+    alloc: Global,
+    events: &[ScriptEvent],
+    lines: &[Line],
+) -> Result<String, AllocError>
+    requires { AreLinesOf events.now lines.now }
+    ensures { IfOk result (λ text. string_bytes text ≡ lines_from 1 events.now lines.now) }
 {
     let mut text = String::new(alloc);
+    let mut left = lines;
     for (index, event) in events.iter().enumerate() {
-        let said = outcome(world, event)?;
-        text = with_line(text, event.device, &event.event, &said, index as u64 + 1)?;
+        let (line, rest) = left.split_first().unwrap();
+        text = with_line(text, event.device, &event.event, line, index as u64 + 1)?;
+        left = rest;
     }
     Ok(text)
 }
 
-/// The event's outcome as a line: two faults have one, a frame that was never sent and an edition that
-/// the chain lacks.
-#[tactic(auto, using(crate::proofs::FaultLemmas::frame_missing, crate::proofs::FaultLemmas::edition_missing))]
-fn outcome(world: &mut World, event: &ScriptEvent) -> Result<Line, AllocError>
-    ensures line { IfOk result (λ line. line ≡ line_of (step world.old event.now.event).1) }
-    ensures fits { IfOk result (λ line. IsLineOf event.now.event line) }
-    ensures world { OnOk result (world.new ≡ (step world.old event.now.event).0) }
+/// What is printed for a script: a line for each event of its run, which so many workers make.
+///
+/// # Errors
+/// Want of memory.
+#[tactic(auto, using(crate::proofs::RunLemmas::all_owned))]
+pub(crate) fn simulate<R: Threads + Sync>(
+    rt: &R,
+    alloc: Global,
+    workers: usize,
+    script: &Script,
+) -> Result<Vec<u8>, AllocError>
+    requires { AreWorkers workers }
+    ensures printed { IfOk result (λ text. text.items ≡ printed script.now (run_of script.now)) }
+    ensures in_range { HaveParams script.now.devices }
 {
-    match world.step(&event.event) {
-        Ok(line) => Ok(line),
-        Err(StepFault::NoSuchFrame(_)) => Ok(Line::NoFrame),
-        Err(StepFault::NoSuchEdition(_)) => Ok(Line::NoEdition),
-        Err(StepFault::Memory) => Err(AllocError),
-    }
+    let lines = outcomes(rt, alloc, workers, script.devices(), script.events())?;
+    let text = printed_lines(alloc, script.events(), lines.as_slice())?;
+    Ok(text.into_bytes())
 }

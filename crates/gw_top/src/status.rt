@@ -1,13 +1,7 @@
 //! How a run of the program ends.
 
 use rule_model::Finding;
-
-/// What was counted past its limit.
-#[derive(Clone, Copy, Debug, PartialEq, Eq)]
-pub enum Counted {
-    /// The bytes of the input.
-    Bytes,
-}
+use script_lang::Counted;
 
 /// How a run of the program ended.
 #[derive(Clone, Copy, Debug, PartialEq, Eq)]
@@ -19,7 +13,8 @@ pub enum Status {
     /// The words are outside the grammar; the number is the place of the first bad word, from 1, or one past the
     /// last word where one lacks.
     Usage(u32),
-    /// The input is outside the grammar. The number of the line, or 0 where lines are not told apart.
+    /// The input is outside the grammar: the number of the first such line of a script, from 1, or 0 for a JSON
+    /// file, in which lines are not told apart.
     BadInput(u64),
     /// A read of the source failed.
     ReadFault,

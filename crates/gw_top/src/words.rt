@@ -1,9 +1,26 @@
 //! The words of a call.
 
-ghost use Rattle.std.specs.Prelude.{◌≡◌, map, string_bytes};
-ghost use Rattle.gw_top.specs.Words.{command_named, command_of};
+ghost use Rattle.std.specs.Prelude.{◌≡◌, ◌+◌, ◌<◌, ◌≤◌, ◌^◌, map, string_bytes, IfSome, IfOk};
+ghost use Rattle.std.specs.Char.{is_ascii_digit};
+ghost use Rattle.std.specs.List.{list_all};
+ghost use Rattle.script_lang.specs.Text.{is_numeral, number_of};
+ghost use Rattle.gw_top.specs.Words.{
+  max_workers,
+  AreWorkers,
+  IsInLimits,
+  count_of,
+  with_workers,
+  ended,
+  workers_at,
+  option_at,
+  command_after,
+  command_of,
+};
 
-/// What the program can be asked to do without threads.
+/// The most workers among which devices are shared out.
+const MAX_WORKERS: u64 = 8;
+
+/// What the program can be asked to do.
 #[derive(Clone, Copy, Debug, PartialEq, Eq)]
 pub(crate) enum Command {
     /// Look whether the editions of a context can be published.
@@ -12,21 +29,142 @@ pub(crate) enum Command {
     Pack,
     /// Read packets by the last edition of a work file.
     Unpack,
-    /// Run a script.
-    Sim,
+    /// Run a script, with so many workers.
+    Sim(usize),
 }
 
-/// The command that a word names.
-#[tactic(auto, unfolding(crate::specs::Words::command_named))]
-fn command_named(word: &str) -> Option<Command>
-    ensures { result ≡ command_named word.now }
+fn is_numeral(word: &[u8]) -> bool
+    ensures { result ≡ is_numeral word.now }
 {
     match word {
-        "check" => Some(Command::Check),
-        "pack" => Some(Command::Pack),
-        "unpack" => Some(Command::Unpack),
-        "sim" => Some(Command::Sim),
-        _ => None,
+        [] => false,
+        [digit] => digit.is_ascii_digit(),
+        [digit, ..] => *digit != b'0' && all_digits(word),
+    }
+}
+
+fn all_digits(word: &[u8]) -> bool
+    ensures { result ≡ list_all is_ascii_digit word.now }
+{
+    word.iter().all(|digit| digit.is_ascii_digit())
+}
+
+/// The number below 2^64 that a word spells: decimal, without a sign and without a leading zero.
+#[tactic(auto, unfolding(script_lang::specs::Text::number_of))]
+fn parsed(word: &str) -> Option<u64>
+    ensures { result ≡ number_of (2 ^ 64) word.now }
+{
+    if !is_numeral(word.as_bytes()) {
+        return None;
+    }
+    word.parse::<u64>().ok()
+}
+
+/// The number below a limit that a word spells.
+#[tactic(auto, unfolding(script_lang::specs::Text::number_of))]
+fn number(limit: u64, word: &str) -> Option<u64>
+    ensures number { result ≡ number_of limit word.now }
+    ensures below { IfSome result (λ n. n < limit) }
+{
+    let found = parsed(word)?;
+    if found < limit { Some(found) } else { None }
+}
+
+/// The number from 1 to `most` that a word spells.
+#[tactic(auto, unfolding(crate::specs::Words::count_of, crate::specs::Words::from_one))]
+fn count(most: u64, word: &str) -> Option<u64>
+    requires { most < 2 ^ 63 }
+    ensures count { result ≡ count_of most word.now }
+    ensures within { IfSome result (λ n. (1 ≤ n) × (n ≤ most)) }
+{
+    let found = number(most + 1, word)?;
+    if 1 <= found { Some(found) } else { None }
+}
+
+/// The command with so many workers.
+fn with_workers(command: Command, workers: usize) -> Command
+    requires limits { IsInLimits command }
+    requires workers { AreWorkers workers }
+    ensures command { result ≡ with_workers command workers }
+    ensures limits { IsInLimits result }
+{
+    match command {
+        Command::Check => Command::Check,
+        Command::Pack => Command::Pack,
+        Command::Unpack => Command::Unpack,
+        Command::Sim(_) => Command::Sim(workers),
+    }
+}
+
+/// The command, where no word stands at this place.
+///
+/// # Errors
+/// The place.
+fn ended(place: u32, command: Command, words: &[String]) -> Result<Command, u32>
+    requires { IsInLimits command }
+    ensures command { result ≡ ended place command (map string_bytes words.now) }
+    ensures limits { IfOk result IsInLimits }
+{
+    match words {
+        [] => Ok(command),
+        [_, ..] => Err(place),
+    }
+}
+
+/// The command with the number of workers that stands at this place.
+///
+/// # Errors
+/// The place of the first word that is outside the grammar, or one past the last where one lacks.
+#[tactic(auto, unfolding(crate::specs::Words::workers_read))]
+fn workers_at(place: u32, command: Command, words: &[String]) -> Result<Command, u32>
+    requires limits { IsInLimits command }
+    requires place { place < 8 }
+    ensures command { result ≡ workers_at place command (map string_bytes words.now) }
+    ensures limits { IfOk result IsInLimits }
+{
+    match words {
+        [] => Err(place),
+        [word, rest @ ..] => match count(MAX_WORKERS, word.as_str()) {
+            Some(workers) => ended(place + 1, with_workers(command, workers as usize), rest),
+            None => Err(place),
+        },
+    }
+}
+
+/// The command with the option that stands at this place, if one does.
+///
+/// # Errors
+/// The place of the first word that is outside the grammar, or one past the last where one lacks.
+fn option_at(place: u32, command: Command, words: &[String]) -> Result<Command, u32>
+    requires limits { IsInLimits command }
+    requires place { place < 7 }
+    ensures command { result ≡ option_at place command (map string_bytes words.now) }
+    ensures limits { IfOk result IsInLimits }
+{
+    match words {
+        [] => Ok(command),
+        [word, rest @ ..] => match word.as_str() {
+            "--workers" => workers_at(place + 1, command, rest),
+            _ => Err(place),
+        },
+    }
+}
+
+/// The command of these words, the first of which names it.
+///
+/// # Errors
+/// The place of the first word that is outside the grammar, or one past the last where one lacks.
+#[tactic(auto, unfolding(crate::specs::Words::command_after))]
+fn command_after(word: &str, words: &[String]) -> Result<Command, u32>
+    ensures command { result ≡ command_after word.now (map string_bytes words.now) }
+    ensures limits { IfOk result IsInLimits }
+{
+    match word {
+        "check" => ended(2, Command::Check, words),
+        "pack" => ended(2, Command::Pack, words),
+        "unpack" => ended(2, Command::Unpack, words),
+        "sim" => option_at(2, Command::Sim(1), words),
+        _ => Err(1),
     }
 }
 
@@ -37,17 +175,11 @@ fn command_named(word: &str) -> Option<Command>
 /// one lacks.
 #[tactic(auto, unfolding(crate::specs::Words::command_of))]
 pub(crate) fn command_in(words: &[String]) -> Result<Command, u32>
-    ensures { result ≡ command_of (map string_bytes words.now) }
+    ensures command { result ≡ command_of (map string_bytes words.now) }
+    ensures limits { IfOk result IsInLimits }
 {
     match words {
         [] => Err(1),
-        [word] => match command_named(word.as_str()) {
-            Some(command) => Ok(command),
-            None => Err(1),
-        },
-        [word, _, ..] => match command_named(word.as_str()) {
-            Some(_) => Err(2),
-            None => Err(1),
-        },
+        [word, rest @ ..] => command_after(word.as_str(), rest),
     }
 }

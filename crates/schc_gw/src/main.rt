@@ -9,37 +9,39 @@ use std::process::ExitCode;
 
 const HELP: &str = "schc_gw: a gateway and a device end for SCHC (RFC 8724)
 
-  schc_gw check      reads a context, prints for each of its editions of rules whether it can be published
-  schc_gw pack       reads a work file, prints each of its packets as an SCHC packet
-  schc_gw unpack     reads a work file, prints the packet that each of its SCHC packets is read as
-  schc_gw sim        reads a script, prints a line for each of its events
-  schc_gw --help     prints this text
-  schc_gw --version  prints the program's name and version
+  schc_gw check              reads a context, prints for each of its editions of rules whether it can be published
+  schc_gw pack               reads a work file, prints each of its packets as an SCHC packet
+  schc_gw unpack             reads a work file, prints the packet that each of its SCHC packets is read as
+  schc_gw sim [--workers W]  reads a script, prints a line for each of its events; W threads, 1 to 8, run its devices
+  schc_gw --help             prints this text
+  schc_gw --version          prints the program's name and version
 ";
 
 const VERSION: &str = "schc_gw 0.1.0\n";
 
 fn main(rt: HostRuntime) -> ExitCode {
     let status = match words::given(&rt) {
-        Ok(words) => answer(&rt, words.as_slice()),
+        Ok(words) => match shown(&rt, words.as_slice()) {
+            Some(status) => status,
+            None => {
+                let mut input = StdSource::new(rt.stdin());
+                let mut output = StdSink::new(rt.stdout());
+                run(&rt, words.as_slice(), &mut input, &mut output)
+            }
+        },
         Err(_) => Status::Memory,
     };
     ExitCode::from(report(&rt, status))
 }
 
-/// What the program does with these words.
-fn answer(rt: &HostRuntime, words: &[String]) -> Status {
-    if let [word] = words {
-        if word.as_str() == "--help" {
-            return show(rt, HELP);
-        }
-        if word.as_str() == "--version" {
-            return show(rt, VERSION);
-        }
+/// Shows what the program is, where the one word asks for that.
+fn shown(rt: &HostRuntime, words: &[String]) -> Option<Status> {
+    let [word] = words else { return None };
+    match word.as_str() {
+        "--help" => Some(show(rt, HELP)),
+        "--version" => Some(show(rt, VERSION)),
+        _ => None,
     }
-    let mut input = StdSource::new(rt.stdin());
-    let mut output = StdSink::new(rt.stdout());
-    run(rt.alloc(), words, &mut input, &mut output)
 }
 
 fn show(rt: &HostRuntime, text: &str) -> Status {

@@ -12,5 +12,5 @@ returns-in-Ok-write_all-clause-answers g c =
     record {
       command = c.in-Ok.command;
       named = search rules;
-      completes = completes c.in-Ok.command this c.in-Ok-read_all.text.items c.in-Ok-Some.made read (search rules) (search rules) (search rules) (search rules);
+      completes = completes c.in-Ok.command this c.in-Ok-read_all.text.items c.in-Ok-output_for.made read (search rules) (search rules) (search rules) (search rules);
     }

@@ -1,5 +1,5 @@
 use Rattle.gw_top.proofs.RunLemmas.{safe_text}
 use Rattle.gw_top.proofs.output.sim_output.Goals as goal
 
-pub returns-in_ok-simulate-in-Ok-clause-safe : goal.returns-in_ok-simulate-in-Ok-clause-safe
-returns-in_ok-simulate-in-Ok-clause-safe c = safe_text c.args.text.now c.in-Ok.script c.in-Ok.ensures.read c.in_ok-simulate-in-Ok.ensures.in_range c.in-Ok.ensures.bytes
+pub returns-clause-safe : goal.returns-clause-safe
+returns-clause-safe g c = safe_text c.args.workers c.args.text.now c.in_ok-script.script c.in_ok-script.ensures.read c.in_ok-lines.ensures.in_range c.in_ok-script.ensures.bytes
