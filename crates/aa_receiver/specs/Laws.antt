@@ -12,7 +12,8 @@ use Rattle.aa_receiver.specs.Steps.{taken, checked, previewed}
 abbrev pub PreviewJoins : Type 0
 PreviewJoins =
     (message : Message) (part : List Bool) (receiver : AaReceiverData) →
-    ((bits : List Bool) × (previewed message part receiver ≡ Some bits)) ↔ ((taken message part receiver).1 ≡ note.Joined)
+    ((bits : List Bool) × (previewed message part receiver ≡ Some bits)) ↔
+    ((taken message part receiver).1 ≡ note.Joined)
 
 -- what it gives are the bits over which the check is made, and their check is the one that was sent
 abbrev pub HasCheck : Message → List Bool → Type 0
@@ -25,11 +26,13 @@ HasCheck form.ReceiverAbort bits = ⊥
 
 abbrev pub PreviewPasses : Type 0
 PreviewPasses =
-    (message : Message) (part bits : List Bool) (receiver : AaReceiverData) → previewed message part receiver ≡ Some bits →
+    (message : Message) (part bits : List Bool) (receiver : AaReceiverData)
+    → previewed message part receiver ≡ Some bits →
     (checked message part receiver ≡ Some bits) × HasCheck message bits
 
 -- and there is room for them
 abbrev pub PreviewFits : Type 0
 PreviewFits =
-    (message : Message) (part bits : List Bool) (receiver : AaReceiverData) → previewed message part receiver ≡ Some bits →
+    (message : Message) (part bits : List Bool) (receiver : AaReceiverData)
+    → previewed message part receiver ≡ Some bits →
     length bits ≤ reassembly_bits

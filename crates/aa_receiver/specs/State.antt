@@ -7,8 +7,10 @@ use Rattle.aa_receiver.specs.declared.states.State.{State}
 use Rattle.aa_receiver.specs.declared.states.State.TheVariants as state
 use Rattle.aa_receiver.specs.declared.states.TileAnswer.{TileAnswer}
 
--- Empty, and whether a Receiver-Abort is due; gathering, with the bits of the tiles that are kept, their count, and the answer
--- that is due, with a C of 0: a window and whether its tile came; finished, with the window of the All-1 that passed the check,
+-- Empty, and whether a Receiver-Abort is due; gathering, with the bits of the tiles that are kept,
+-- their count, and the answer
+-- that is due, with a C of 0: a window and whether its tile came; finished, with the window of the
+-- All-1 that passed the check,
 -- and whether an answer, with a C of 1, is due
 pub data AaReceiverData : Type 0 where
   Empty : Bool → AaReceiverData
@@ -38,11 +40,13 @@ IsDue (Some answer) = answer.w ≤ 1
 -- what holds of every receiver: each tile that is kept has bits, and there is room for them
 abbrev pub IsAaReceiver : AaReceiverData → Type 0
 IsAaReceiver (Empty abort) = Unit {0}
-IsAaReceiver (Gathering bits count answer) = (count ≤ length bits) × (length bits ≤ reassembly_bits) × IsDue answer
+IsAaReceiver (Gathering bits count answer) = (count ≤ length bits) × (length bits ≤ reassembly_bits)
+    × IsDue answer
 IsAaReceiver (Finished w answer) = w ≤ 1
 
 -- the same of one that keeps these bits, which are none while it is empty
 abbrev pub StandsIn : List Bool → State → Type 0
 StandsIn bits (state.Empty abort) = bits ≡ []
-StandsIn bits (state.Gathering count answer) = (count ≤ length bits) × (length bits ≤ reassembly_bits) × IsDue answer
+StandsIn bits (state.Gathering count answer) = (count ≤ length bits)
+    × (length bits ≤ reassembly_bits) × IsDue answer
 StandsIn bits (state.Finished w answer) = w ≤ 1

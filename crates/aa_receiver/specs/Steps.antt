@@ -1,6 +1,8 @@
--- RFC 8724, section 8.4.2.2: what a receiver in the ACK-Always mode does with each message, what it answers, and what its timers
+-- RFC 8724, section 8.4.2.2: what a receiver in the ACK-Always mode does with each message, what it
+-- answers, and what its timers
 -- do.
-use Rattle.std.specs.Prelude.{ℕ, suc, ◌%◌, ◌==◌, Bool, true, false, if◌then◌else◌, List, [], ◌++◌, Option, None, Some, option_map}
+use Rattle.std.specs.Prelude.{ℕ, suc, ◌%◌, ◌==◌, Bool, true, false, if◌then◌else◌, List, [], ◌++◌}
+use Rattle.std.specs.Prelude.{Option, None, Some, option_map}
 use Rattle.schc_ids.specs.Fragments.{params_of}
 use Rattle.schc_ids.specs.declared.fragments.FragMode.TheVariants as mode
 use Rattle.schc_ids.specs.declared.notes.Note.{Note}
@@ -15,14 +17,16 @@ use Rattle.aa_receiver.specs.declared.states.TileAnswer.{TileAnswer}
 
 -- Messages. `part` is the payload.
 
--- the window of the next tile, where so many are kept: each window has one tile, and its number has one bit
+-- the window of the next tile, where so many are kept: each window has one tile, and its number has
+-- one bit
 abbrev pub open_window : ℕ → ℕ
 open_window count = count % 2
 
 abbrev pub tile_answer : ℕ → Bool → Option TileAnswer
 tile_answer w came = Some (record { w = w; came = came })
 
--- an empty receiver begins with a message of window 0; at a message of another one it stays empty. No abort is due any more
+-- an empty receiver begins with a message of window 0; at a message of another one it stays empty.
+-- No abort is due any more
 unfoldable pub entered : ℕ → AaReceiverData → AaReceiverData
 entered w (Empty abort) = if w == 0 then Gathering [] 0 None else Empty false
 entered w (Gathering bits count answer) = Gathering bits count answer
@@ -35,7 +39,8 @@ before bits count answer w meaning false = (Gathering bits count (tile_answer w 
 
 -- the tile of the open window: it is kept where there is room
 unfoldable pub next_tile : List Bool → ℕ → ℕ → List Bool → Bool → AaReceiverData × Note
-next_tile bits count w part true = (Gathering (bits ++ part) (suc count) (tile_answer w true), note.Stored)
+next_tile bits count w part true =
+    (Gathering (bits ++ part) (suc count) (tile_answer w true), note.Stored)
 next_tile bits count w part false = (Empty true, note.Overflow)
 
 -- the steps of a receiver that has entered
@@ -46,7 +51,8 @@ regular_step w part (Gathering bits count answer) =
     else before bits count answer w note.Repeat (count == 0)
 regular_step w part (Finished last answer) = (Finished last answer, note.Remnant)
 
--- the last tile, of the open window: whether there is room for it, and whether the check passes over what is kept and the tile,
+-- the last tile, of the open window: whether there is room for it, and whether the check passes
+-- over what is kept and the tile,
 -- which isn't kept where it fails
 unfoldable pub last_tile : List Bool → ℕ → ℕ → Bool → Bool → AaReceiverData × Note
 last_tile bits count w false passed = (Empty true, note.Overflow)
@@ -55,12 +61,14 @@ last_tile bits count w true false = (Gathering bits count (tile_answer w true), 
 
 -- a receiver that has finished answers again what names its window
 unfoldable pub finished_step : ℕ → ℕ → Bool → AaReceiverData × Note
-finished_step w last answer = if w == last then (Finished last true, note.Repeat) else (Finished last answer, note.Remnant)
+finished_step w last answer =
+    if w == last then (Finished last true, note.Repeat) else (Finished last answer, note.Remnant)
 
 unfoldable pub all1_step : ℕ → ℕ → List Bool → AaReceiverData → AaReceiverData × Note
 all1_step w rcs part (Empty abort) = (Empty abort, note.Remnant)
 all1_step w rcs part (Gathering bits count answer) =
-    if w == open_window count then last_tile bits count w (has_room bits part) (passes bits part rcs)
+    if w == open_window count then last_tile bits count w (has_room bits part)
+    (passes bits part rcs)
     else (Gathering bits count answer, note.Remnant)
 all1_step w rcs part (Finished last answer) = finished_step w last answer
 
@@ -103,7 +111,8 @@ all1_check w part (Gathering bits count answer) =
     if w == open_window count then checked_part bits part else None
 all1_check w part (Finished last answer) = None
 
--- the bits over which this message makes the check, where it makes one: what is kept and the tile of the All-1
+-- the bits over which this message makes the check, where it makes one: what is kept and the tile
+-- of the All-1
 unfoldable pub checked : Message → List Bool → AaReceiverData → Option (List Bool)
 checked (form.Regular w fcn from) part receiver = None
 checked (form.All1 w rcs from) part receiver = all1_check w part (entered w receiver)
@@ -150,13 +159,15 @@ unfoldable pub due_answer : AaReceiverData → Option Message
 due_answer (Empty true) = Some form.ReceiverAbort
 due_answer (Empty false) = None
 due_answer (Gathering bits count None) = None
-due_answer (Gathering bits count (Some answer)) = Some (form.Ack answer.w false (bitmap_of answer.came))
+due_answer (Gathering bits count (Some answer)) =
+    Some (form.Ack answer.w false (bitmap_of answer.came))
 due_answer (Finished last true) = Some (form.Ack last true 0)
 due_answer (Finished last false) = None
 
 -- its bytes
 abbrev pub due_bytes : AaReceiverData → Option (List ℕ)
-due_bytes receiver = option_map (λ message. written (params_of mode.AckAlways) message []) (due_answer receiver)
+due_bytes receiver =
+    option_map (λ message. written (params_of mode.AckAlways) message []) (due_answer receiver)
 
 -- the receiver after the answer that is due was given
 unfoldable pub answered : AaReceiverData → AaReceiverData

@@ -1,5 +1,6 @@
 -- The session of a sender stays the same, and its All-1 carries its check.
-use Rattle.std.specs.Prelude.{ℕ, ◌≡◌, ◌↔◌, ◌⊎◌, ◌==◌, Bool, true, false, List, [], Option, Some, None, option_map}
+use Rattle.std.specs.Prelude.{ℕ, ◌≡◌, ◌↔◌, ◌⊎◌, ◌==◌, Bool, true, false, List, [], Option, Some}
+use Rattle.std.specs.Prelude.{None, option_map}
 use Rattle.std.proofs.Common.{ap, inl, inr, refl, sym, ◌∙◌}
 use Rattle.schc_ids.specs.Fragments.{params_of, IsFragParams}
 use Rattle.schc_ids.specs.declared.fragments.FragParams.{FragParams}
@@ -16,9 +17,11 @@ use Rattle.rcs.specs.Division.{rcs_of}
 use Rattle.tiles_bitmap.specs.Padding.{padded_packet}
 use Rattle.aa_sender.specs.Laws.{KeepsSession, NoneDue, All1Checks}
 use Rattle.aa_sender.specs.State.{AaSenderData, IsAaSender, StandsIn, phase_in, tile_at, last_index}
-use Rattle.aa_sender.specs.Steps.{window_of, fragment_of, request_of, bytes_due, due_in, due_message, sent, heard, retried, aborted}
+use Rattle.aa_sender.specs.Steps.{window_of, fragment_of, request_of, bytes_due, due_in}
+use Rattle.aa_sender.specs.Steps.{due_message, sent, heard, retried, aborted}
 use Rattle.aa_sender.specs.declared.states.AaSenderState.{AaSenderState}
-use Rattle.aa_sender.specs.declared.states.AaSenderState.TheVariants.{Sending, Waiting, Closing, Quiet}
+use Rattle.aa_sender.specs.declared.states.AaSenderState.TheVariants.{Sending, Waiting, Closing}
+use Rattle.aa_sender.specs.declared.states.AaSenderState.TheVariants.{Quiet}
 use Rattle.aa_sender.proofs.SenderLemmas.{window_of_below, can_request, can_abort}
 use Rattle.aa_sender.proofs.ArrivalLemmas.{Fits, fragment-fits}
 
@@ -43,7 +46,8 @@ closing-moves : IsStill phase.Closing → ⊥
 closing-moves (inl e) = cc
 closing-moves (inr e) = cc
 
-none-in : (sender : AaSenderData) (state : AaSenderState) → (option_map (bytes_due sender.params) (due_in sender state) ≡ None) ↔ IsStill (phase_in state)
+none-in : (sender : AaSenderData) (state : AaSenderState)
+    → (option_map (bytes_due sender.params) (due_in sender state) ≡ None) ↔ IsStill (phase_in state)
 unfolding due_in
 none-in sender (Sending i ack_req attempts) = (λ h. absurd (cc h), λ h. absurd (sending-moves h))
 none-in sender (Waiting i attempts) = (λ h. inl refl, λ h. refl)
@@ -64,11 +68,17 @@ check_in form.SenderAbort = None
 check_in form.ReceiverAbort = None
 
 -- bytes that were written for a message and are an All-1 carry the message's check
-written-check : (params : FragParams) (message : Message) (payload other : List Bool) (bytes : List ℕ) (w rcs from : ℕ) → IsFragParams params → CanSpell params side.Fragments message payload →
-    written params message payload ≡ bytes → Spells params side.Fragments (form.All1 w rcs from) other bytes → Some rcs ≡ check_in (placed params message)
+written-check : (params : FragParams) (message : Message) (payload other : List Bool)
+    (bytes : List ℕ) (w rcs from : ℕ) → IsFragParams params
+    → CanSpell params side.Fragments message payload →
+    written params message payload ≡ bytes
+    → Spells params side.Fragments (form.All1 w rcs from) other bytes
+    → Some rcs ≡ check_in (placed params message)
 written-check params message payload other bytes w rcs from row can e spells =
     let is = IsWritten-written params side.Fragments message payload bytes row can (sym e) in
-    ap check_in (spelled-once params side.Fragments bytes (form.All1 w rcs from) (placed params message) other _ spells is.spells).0
+    ap check_in
+    (spelled-once params side.Fragments bytes (form.All1 w rcs from) (placed params message)
+    other _ spells is.spells).0
 
 row-of : (sender : AaSenderData) → IsAaSender sender → IsFragParams sender.params
 row-of sender is = is.row ∙ ap (λ (p : FragParams). params_of p.mode) (sym is.row)
@@ -82,27 +92,44 @@ some-check first second e = cc
 none-check : (rcs : ℕ) → ◌≡◌ {A = Option ℕ} (Some rcs) None → ⊥
 none-check rcs e = cc
 
-fragment-checks : (sender : AaSenderData) (i : ℕ) (is_last : Bool) (bytes : List ℕ) (w rcs from : ℕ) (payload : List Bool) → IsAaSender sender → Fits sender (fragment_of sender i is_last) →
-    bytes_due sender.params (fragment_of sender i is_last) ≡ bytes → Spells sender.params side.Fragments (form.All1 w rcs from) payload bytes → rcs ≡ rcs_of (padded_packet sender.params sender.mtu sender.bits)
+fragment-checks : (sender : AaSenderData) (i : ℕ) (is_last : Bool) (bytes : List ℕ) (w rcs from : ℕ)
+    (payload : List Bool) → IsAaSender sender → Fits sender (fragment_of sender i is_last) →
+    bytes_due sender.params (fragment_of sender i is_last) ≡ bytes
+    → Spells sender.params side.Fragments (form.All1 w rcs from) payload bytes
+    → rcs ≡ rcs_of (padded_packet sender.params sender.mtu sender.bits)
 unfolding fragment_of
 fragment-checks sender i true bytes w rcs from payload is fits e spells =
     some-check rcs (rcs_of (padded_packet sender.params sender.mtu sender.bits))
-    (written-check sender.params (form.All1 (window_of i) (rcs_of (padded_packet sender.params sender.mtu sender.bits)) 34) (tile_at sender i) payload bytes w rcs from (row-of sender is) fits.0 e spells)
+    (written-check sender.params
+    (form.All1 (window_of i) (rcs_of (padded_packet sender.params sender.mtu sender.bits)) 34)
+    (tile_at sender i) payload bytes w rcs from (row-of sender is) fits.0 e spells)
 fragment-checks sender i false bytes w rcs from payload is fits e spells =
-    absurd (none-check rcs (written-check sender.params (form.Regular (window_of i) 0 2) (tile_at sender i) payload bytes w rcs from (row-of sender is) fits.0 e spells))
+    absurd (none-check rcs
+    (written-check sender.params (form.Regular (window_of i) 0 2) (tile_at sender i) payload
+    bytes w rcs from (row-of sender is) fits.0 e spells))
 
-due_in-checks : (sender : AaSenderData) (state : AaSenderState) (bytes : List ℕ) (w rcs from : ℕ) (payload : List Bool) → IsAaSender sender → StandsIn (last_index sender) state →
-    option_map (bytes_due sender.params) (due_in sender state) ≡ Some bytes → Spells sender.params side.Fragments (form.All1 w rcs from) payload bytes → rcs ≡ rcs_of (padded_packet sender.params sender.mtu sender.bits)
+due_in-checks : (sender : AaSenderData) (state : AaSenderState) (bytes : List ℕ) (w rcs from : ℕ)
+    (payload : List Bool) → IsAaSender sender → StandsIn (last_index sender) state →
+    option_map (bytes_due sender.params) (due_in sender state) ≡ Some bytes
+    → Spells sender.params side.Fragments (form.All1 w rcs from) payload bytes
+    → rcs ≡ rcs_of (padded_packet sender.params sender.mtu sender.bits)
 unfolding due_in request_of
 due_in-checks sender (Sending i true attempts) bytes w rcs from payload is h e spells =
-    absurd (none-check rcs (written-check sender.params (form.AckReq (window_of i)) [] payload bytes w rcs from (row-of sender is) (can_request sender.params (window_of i) is.row (window_of_below i)) (some-bytes _ bytes e) spells))
+    absurd (none-check rcs
+    (written-check sender.params (form.AckReq (window_of i)) [] payload bytes w rcs from
+    (row-of sender is) (can_request sender.params (window_of i) is.row (window_of_below i))
+    (some-bytes _ bytes e) spells))
 due_in-checks sender (Sending i false attempts) bytes w rcs from payload is h e spells =
-    fragment-checks sender i (i == last_index sender) bytes w rcs from payload is (fragment-fits sender i (i == last_index sender) refl is h.0) (some-bytes _ bytes e) spells
+    fragment-checks sender i (i == last_index sender) bytes w rcs from payload is
+    (fragment-fits sender i (i == last_index sender) refl is h.0) (some-bytes _ bytes e) spells
 due_in-checks sender (Waiting i attempts) bytes w rcs from payload is h e spells = absurd (cc e)
 due_in-checks sender Closing bytes w rcs from payload is h e spells =
-    absurd (none-check rcs (written-check sender.params form.SenderAbort [] payload bytes w rcs from (row-of sender is) (can_abort sender.params is.row) (some-bytes _ bytes e) spells))
+    absurd (none-check rcs
+    (written-check sender.params form.SenderAbort [] payload bytes w rcs from (row-of sender is)
+    (can_abort sender.params is.row) (some-bytes _ bytes e) spells))
 due_in-checks sender Quiet bytes w rcs from payload is h e spells = absurd (cc e)
 
 pub all1_checks : All1Checks
 unfolding due_message
-all1_checks sender bytes w rcs from payload is e spells = due_in-checks sender sender.state bytes w rcs from payload is is.stands e spells
+all1_checks sender bytes w rcs from payload is e spells =
+    due_in-checks sender sender.state bytes w rcs from payload is is.stands e spells

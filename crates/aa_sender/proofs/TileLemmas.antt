@@ -9,20 +9,26 @@ use Rattle.tiles_bitmap.specs.Tiles.{tile_sizes, tiles}
 use Rattle.tiles_bitmap.proofs.PieceLemmas.{is-piece, fits-regular, fits-last, each-least}
 use Rattle.tiles_bitmap.proofs.TilesLemmas.{tiles-fit, tiles-large}
 
--- in ACK-Always a tile that isn't the last has eight bits or more, and fills whole bytes of a frame behind its header
+-- in ACK-Always a tile that isn't the last has eight bits or more, and fills whole bytes of a frame
+-- behind its header
 pub record FillsFrame (mtu : ℕ) (tile : List Bool) : Type 0 where
   pub least : 8 ≤ length tile
   pub fits : length tile + 2 ≤ 8 * mtu
   pub whole : (length tile + 2) % 8 ≡ 0
 
-pub regular-fits : (mtu : ℕ) (bits : List Bool) (i : ℕ) → IsMtu mtu → 8 ≤ length bits → suc i < length (tile_sizes (params_of mode.AckAlways) mtu (length bits)) →
+pub regular-fits : (mtu : ℕ) (bits : List Bool) (i : ℕ) → IsMtu mtu → 8 ≤ length bits
+    → suc i < length (tile_sizes (params_of mode.AckAlways) mtu (length bits)) →
     FillsFrame mtu (get_or (tiles (params_of mode.AckAlways) mtu bits) i [])
 regular-fits mtu bits i h some inside =
     let params : FragParams = params_of mode.AckAlways in
     let piece = is-piece params mtu bits i h (omega (arith, some)) (omega (arith, inside)) in
     let size = piece.size in
-    let least = each-least 8 (tile_sizes params mtu (length bits)) i (tiles-large params mtu (length bits) h some) (omega (arith, inside)) in
-    let most = fits-regular 2 mtu (tile_sizes params mtu (length bits)) i (tiles-fit params mtu (length bits) h) inside in
+    let least =
+    each-least 8 (tile_sizes params mtu (length bits)) i
+    (tiles-large params mtu (length bits) h some) (omega (arith, inside)) in
+    let most =
+    fits-regular 2 mtu (tile_sizes params mtu (length bits)) i
+    (tiles-fit params mtu (length bits) h) inside in
     record {
       least = omega (arith, size, least);
       fits = omega (arith, size, most.1);
@@ -30,11 +36,14 @@ regular-fits mtu bits i h some inside =
     }
 
 -- the last tile fits in a frame behind the header and the RCS
-pub last-fits : (mtu : ℕ) (bits : List Bool) (i : ℕ) → IsMtu mtu → 1 ≤ length bits → suc i ≡ length (tile_sizes (params_of mode.AckAlways) mtu (length bits)) →
+pub last-fits : (mtu : ℕ) (bits : List Bool) (i : ℕ) → IsMtu mtu → 1 ≤ length bits
+    → suc i ≡ length (tile_sizes (params_of mode.AckAlways) mtu (length bits)) →
     34 + length (get_or (tiles (params_of mode.AckAlways) mtu bits) i []) ≤ 8 * mtu
 last-fits mtu bits i h some inside =
     let params : FragParams = params_of mode.AckAlways in
     let piece = is-piece params mtu bits i h some (omega (arith, inside)) in
     let size = piece.size in
-    let most = fits-last 2 mtu (tile_sizes params mtu (length bits)) i (tiles-fit params mtu (length bits) h) inside in
+    let most =
+    fits-last 2 mtu (tile_sizes params mtu (length bits)) i
+    (tiles-fit params mtu (length bits) h) inside in
     omega (arith, size, most)

@@ -1,5 +1,6 @@
 -- What holds of every sender.
-use Rattle.std.specs.Prelude.{ℕ, ◌≡◌, ◌↔◌, ◌⊎◌, ◌<◌, ◌≤◌, true, false, List, Bool, ◌++◌, length, take, Some, None, IfSome}
+use Rattle.std.specs.Prelude.{ℕ, ◌≡◌, ◌↔◌, ◌⊎◌, ◌<◌, ◌≤◌, true, false, List, Bool, ◌++◌, length}
+use Rattle.std.specs.Prelude.{take, Some, None, IfSome}
 use Rattle.schc_bits.specs.Bits.{octets}
 use Rattle.schc_ids.specs.Fragments.{params_of}
 use Rattle.schc_ids.specs.Limits.{IsMtu, min_cut_bits, max_session_bits}
@@ -15,14 +16,17 @@ use Rattle.frag_wire.specs.declared.message.Message.TheVariants as form
 use Rattle.rcs.specs.Division.{rcs_of}
 use Rattle.tiles_bitmap.specs.Laws.{joined}
 use Rattle.tiles_bitmap.specs.Padding.{padded_packet}
-use Rattle.aa_sender.specs.State.{AaSenderData, IsAaSender, begun, sender_phase, packet_tiles, tile_at, last_index}
-use Rattle.aa_sender.specs.Steps.{fragment_of, fragment_bytes, bytes_due, due_message, due_bytes, sent, heard, retried, aborted}
+use Rattle.aa_sender.specs.State.{AaSenderData, IsAaSender, begun, sender_phase, packet_tiles}
+use Rattle.aa_sender.specs.State.{tile_at, last_index}
+use Rattle.aa_sender.specs.Steps.{fragment_of, fragment_bytes, bytes_due, due_message, due_bytes}
+use Rattle.aa_sender.specs.Steps.{sent, heard, retried, aborted}
 
 -- a session that begins has a sender
 abbrev pub BeginsOne : Type 0
 BeginsOne =
     (params : FragParams) (mtu : ℕ) (last : LastTile) (bits : List Bool) →
-    params ≡ params_of mode.AckAlways → IsMtu mtu → min_cut_bits ≤ length bits → length bits ≤ max_session_bits →
+    params ≡ params_of mode.AckAlways → IsMtu mtu → min_cut_bits ≤ length bits
+    → length bits ≤ max_session_bits →
     IsAaSender (begun params mtu last bits)
 
 -- each step leads to a sender
@@ -55,13 +59,16 @@ KeepsSession = (sender : AaSenderData) → KeepsIts sender
 abbrev pub NoneDue : Type 0
 NoneDue =
     (sender : AaSenderData) →
-    (due_bytes sender ≡ None) ↔ ((sender_phase sender ≡ phase.Waiting) ⊎ (sender_phase sender ≡ phase.Quiet))
+    (due_bytes sender ≡ None) ↔
+    ((sender_phase sender ≡ phase.Waiting) ⊎ (sender_phase sender ≡ phase.Quiet))
 
 -- what is due can be written, and fits in a frame
 abbrev pub DueFits : Type 0
 DueFits =
     (sender : AaSenderData) → IsAaSender sender →
-    IfSome (due_message sender) (λ due. CanSpell sender.params side.Fragments due.0 due.1 × (length (bytes_due sender.params due) ≤ sender.mtu))
+    IfSome (due_message sender)
+    (λ due. CanSpell sender.params side.Fragments due.0 due.1
+    × (length (bytes_due sender.params due) ≤ sender.mtu))
 
 -- an All-1 that is due carries the check of the padded packet
 abbrev pub All1Checks : Type 0
@@ -75,12 +82,14 @@ All1Checks =
 abbrev pub TileArrives : Type 0
 TileArrives =
     (sender : AaSenderData) (i : ℕ) → IsAaSender sender → i < last_index sender →
-    payload_in (fragment_of sender i false).0 (octets (fragment_bytes sender i false)) ≡ tile_at sender i
+    payload_in (fragment_of sender i false).0 (octets (fragment_bytes sender i false)) ≡ tile_at
+    sender i
 
 -- the tiles of all Regulars and then the payload of the All-1, as it is read, are the padded packet
 abbrev pub LastArrives : Type 0
 LastArrives =
     (sender : AaSenderData) → IsAaSender sender →
     joined (take (last_index sender) (packet_tiles sender)) ++
-    payload_in (fragment_of sender (last_index sender) true).0 (octets (fragment_bytes sender (last_index sender) true)) ≡
+    payload_in (fragment_of sender (last_index sender) true).0
+    (octets (fragment_bytes sender (last_index sender) true)) ≡
     padded_packet sender.params sender.mtu sender.bits

@@ -9,7 +9,8 @@ use Rattle.schc_ids.specs.declared.phases.SenderPhase.{SenderPhase}
 use Rattle.schc_ids.specs.declared.phases.SenderPhase.TheVariants as phase
 use Rattle.tiles_bitmap.specs.Tiles.{tile_ends, tiles}
 use Rattle.aa_sender.specs.declared.states.AaSenderState.{AaSenderState}
-use Rattle.aa_sender.specs.declared.states.AaSenderState.TheVariants.{Sending, Waiting, Closing, Quiet}
+use Rattle.aa_sender.specs.declared.states.AaSenderState.TheVariants.{Sending, Waiting, Closing}
+use Rattle.aa_sender.specs.declared.states.AaSenderState.TheVariants.{Quiet}
 
 -- the bits are those of the SCHC packet that goes as this session
 pub record AaSenderData : Type 0 where
@@ -18,9 +19,11 @@ pub record AaSenderData : Type 0 where
   pub bits : List Bool
   pub state : AaSenderState
 
--- a session that begins: its first tile is due. Where the last tile goes has no meaning in this mode
+-- a session that begins: its first tile is due. Where the last tile goes has no meaning in this
+-- mode
 abbrev pub begun : FragParams → ℕ → LastTile → List Bool → AaSenderData
-begun params mtu last bits = record { params = params; mtu = mtu; bits = bits; state = Sending 0 false 0 }
+begun params mtu last bits =
+    record { params = params; mtu = mtu; bits = bits; state = Sending 0 false 0 }
 
 -- the tiles of the packet, in their order
 abbrev pub packet_tiles : AaSenderData → List (List Bool)
@@ -43,7 +46,8 @@ phase_in Quiet = phase.Quiet
 abbrev pub sender_phase : AaSenderData → SenderPhase
 sender_phase sender = phase_in sender.state
 
--- where a sender can stand: at one of its tiles, asking for an answer at another tile than the last one, with fewer than
+-- where a sender can stand: at one of its tiles, asking for an answer at another tile than the last
+-- one, with fewer than
 -- MAX_ACK_REQUESTS requests that no answer followed, or waiting after one up to so many
 abbrev pub StandsIn : ℕ → AaSenderState → Type 0
 StandsIn last (Sending i ack_req attempts) =

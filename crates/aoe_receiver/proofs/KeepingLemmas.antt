@@ -1,5 +1,7 @@
 -- What the store stands for when it is new, and after a tile is kept.
-use Rattle.std.proofs.Common.{◌≡◌, ℕ, zero, suc, ◌+◌, ◌-◌, ◌*◌, ◌/◌, ◌%◌, ◌^◌, ◌<◌, ◌≤◌, ◌==◌, Bool, true, false, not, List, [], ◌∷◌, ◌++◌, take, drop, set, get_or, length, replicate, refl, sym, ap, ◌∙◌, arith}
+use Rattle.std.proofs.Common.{◌≡◌, ℕ, zero, suc, ◌+◌, ◌-◌, ◌*◌, ◌/◌, ◌%◌, ◌^◌, ◌<◌, ◌≤◌, ◌==◌, Bool}
+use Rattle.std.proofs.Common.{true, false, not, List, [], ◌∷◌, ◌++◌, take, drop, set, get_or}
+use Rattle.std.proofs.Common.{length, replicate, refl, sym, ap, ◌∙◌, arith}
 use Rattle.std.proofs.lemmas.Bool.{ne_eqb}
 use Rattle.std.proofs.lemmas.Nat.{one_shl}
 use Rattle.std.proofs.lemmas.List.{get_or_read, length-set, length-replicate, take_at}
@@ -7,19 +9,29 @@ use Rattle.schc_bits.specs.Bits.{bits_value, octets}
 use Rattle.tiles_bitmap.specs.Places.{keep, held_bits, bitmap}
 use Rattle.aoe_receiver.specs.State.{no_tiles}
 use Rattle.aoe_receiver.specs.Store.{IsStore, empty_store, overwritten, places, is_sized, sized}
-use Rattle.aoe_receiver.proofs.StoreLemmas.{drop-behind, taken-overwritten, length-overwritten, held-sized, length-sized, places-none, sized-none, sized-at, sized-set, places-put, places-behind, small-set, small-none}
-use Rattle.aoe_receiver.proofs.MarksLemmas.{length-bitmap, bitmap-at, marked-set, mark-room, marks-none}
+use Rattle.aoe_receiver.proofs.StoreLemmas.{drop-behind, taken-overwritten, length-overwritten}
+use Rattle.aoe_receiver.proofs.StoreLemmas.{held-sized, length-sized, places-none, sized-none}
+use Rattle.aoe_receiver.proofs.StoreLemmas.{sized-at, sized-set, places-put, places-behind}
+use Rattle.aoe_receiver.proofs.StoreLemmas.{small-set, small-none}
+use Rattle.aoe_receiver.proofs.MarksLemmas.{length-bitmap, bitmap-at, marked-set, mark-room}
+use Rattle.aoe_receiver.proofs.MarksLemmas.{marks-none}
 
 -- a part of a list is replaced by as many others
-pub pasted : (at len k : ℕ) (bytes new old buffer : List ℕ) → old ≡ buffer → new ≡ bytes → len ≡ length buffer → k ≡ length bytes → at + length bytes ≤ length buffer →
-    take len ((take at old ++ (new ++ drop k (drop at old))) ++ drop (length (take at old ++ (new ++ drop k (drop at old)))) buffer) ≡ overwritten at bytes buffer
+pub pasted : (at len k : ℕ) (bytes new old buffer : List ℕ) → old ≡ buffer → new ≡ bytes
+    → len ≡ length buffer → k ≡ length bytes → at + length bytes ≤ length buffer →
+    take len
+    ((take at old ++ (new ++ drop k (drop at old))) ++ drop
+    (length (take at old ++ (new ++ drop k (drop at old)))) buffer) ≡ overwritten at bytes
+    buffer
 unfolding overwritten
 pasted at len k bytes new old buffer same written all count within =
     rw (same, written, count)
-    (take_at (overwritten at bytes buffer) (drop (length (overwritten at bytes buffer)) buffer) len (length-overwritten at bytes buffer within ∙ sym all))
+    (take_at (overwritten at bytes buffer) (drop (length (overwritten at bytes buffer)) buffer) len
+    (length-overwritten at bytes buffer within ∙ sym all))
 
 -- a store in which all sizes are 0
-pub store-none : (buffer sizes marks : List ℕ) → length buffer ≡ 2530 → sizes ≡ replicate 252 0 → marks ≡ replicate 4 0 → IsStore buffer sizes marks 0
+pub store-none : (buffer sizes marks : List ℕ) → length buffer ≡ 2530 → sizes ≡ replicate 252 0
+    → marks ≡ replicate 4 0 → IsStore buffer sizes marks 0
 store-none buffer sizes marks all free clear =
     rw (free, clear)
     record {
@@ -31,7 +43,12 @@ store-none buffer sizes marks all free clear =
       marked = λ w h. rw (sized-none 252) (marks-none w h);
     }
 
-pub view-none : (buffer sizes : List ℕ) → sizes ≡ replicate 252 0 → record { tiles = places sizes buffer; last = octets (take 0 (drop 2520 buffer)) } ≡ empty_store
+pub view-none : (buffer sizes : List ℕ) → sizes ≡ replicate 252 0
+    → record {
+      tiles = places sizes buffer;
+      last =
+          octets (take 0 (drop 2520 buffer));
+    } ≡ empty_store
 unfolding empty_store no_tiles
 view-none buffer sizes free = rw (free, places-none 252 buffer) refl
 
@@ -52,22 +69,29 @@ sized-false zero b e f = refl
 sized-false (suc n) b e f = let t : b ≡ true = e in absurd cc
 
 -- a place with a size holds a tile, one without a size doesn't
-pub held-place : (sizes buffer : List ℕ) (place n : ℕ) → place < length sizes → n ≡ get_or sizes place n → (n ≡ 0 → ⊥) → get_or (held_bits (places sizes buffer)) place false ≡ true
+pub held-place : (sizes buffer : List ℕ) (place n : ℕ) → place < length sizes
+    → n ≡ get_or sizes place n → (n ≡ 0 → ⊥)
+    → get_or (held_bits (places sizes buffer)) place false ≡ true
 unfolding is_sized
 held-place sizes buffer place n h e some =
-    rw (held-sized sizes buffer, sized-at sizes place, sym (get_or_read sizes place n h e 0)) (sized-some n some)
+    rw (held-sized sizes buffer, sized-at sizes place, sym (get_or_read sizes place n h e 0))
+    (sized-some n some)
   where
     sized-some : (n : ℕ) → (n ≡ 0 → ⊥) → is_sized n ≡ true
     sized-some zero some = absurd (some refl)
     sized-some (suc n) some = refl
 
-pub free-place : (sizes : List ℕ) (place n : ℕ) → place < length sizes → n ≡ get_or sizes place n → n ≡ 0 → get_or (sized sizes) place false ≡ false
+pub free-place : (sizes : List ℕ) (place n : ℕ) → place < length sizes → n ≡ get_or sizes place n
+    → n ≡ 0 → get_or (sized sizes) place false ≡ false
 unfolding is_sized
 free-place sizes place n h e none =
     rw (sized-at sizes place, sym (get_or_read sizes place n h e 0), none) refl
 
-pub open-place : (sizes buffer : List ℕ) (place n : ℕ) → place < length sizes → n ≡ get_or sizes place n → n ≡ 0 → get_or (held_bits (places sizes buffer)) place false ≡ false
-open-place sizes buffer place n h e none = rw (held-sized sizes buffer) (free-place sizes place n h e none)
+pub open-place : (sizes buffer : List ℕ) (place n : ℕ) → place < length sizes
+    → n ≡ get_or sizes place n → n ≡ 0
+    → get_or (held_bits (places sizes buffer)) place false ≡ false
+open-place sizes buffer place n h e none =
+    rw (held-sized sizes buffer) (free-place sizes place n h e none)
 
 -- the store after a tile is written
 pub record Puts (sizes buffer tile : List ℕ) (place : ℕ) (size : ℕ) : Type 0 where
@@ -77,26 +101,37 @@ pub record Puts (sizes buffer tile : List ℕ) (place : ℕ) (size : ℕ) : Type
   pub some : 1 ≤ length tile
   pub most : length tile ≤ 10
 
-pub room-put : (buffer sizes marks tile : List ℕ) (last place size : ℕ) → IsStore buffer sizes marks last → Puts sizes buffer tile place size →
+pub room-put : (buffer sizes marks tile : List ℕ) (last place size : ℕ)
+    → IsStore buffer sizes marks last → Puts sizes buffer tile place size →
     get_or marks (place / 63) 0 + 1 * 2 ^ (62 - place % 63) % 2 ^ 64 < 2 ^ 63
 room-put buffer sizes marks tile last place size s p =
     let there = p.there in
     let all = s.all_places in
     let at : place / 63 * 63 + place % 63 ≡ place = omega arith in
-    let count : length (bitmap 63 (place / 63) (sized sizes)) ≡ 63 = length-bitmap (place / 63) (sized sizes) (omega (arith, length-sized sizes)) in
+    let count : length (bitmap 63 (place / 63) (sized sizes)) ≡ 63 =
+    length-bitmap (place / 63) (sized sizes) (omega (arith, length-sized sizes)) in
     let bit : get_or (bitmap 63 (place / 63) (sized sizes)) (place % 63) false ≡ false =
-    bitmap-at (place / 63) (place % 63) (sized sizes) (omega arith) ∙ ap (λ i. get_or (sized sizes) i false) at ∙ free-place sizes place size (omega arith) p.read p.free in
+    bitmap-at (place / 63) (place % 63) (sized sizes) (omega arith)
+    ∙ ap (λ i. get_or (sized sizes) i false) at
+    ∙ free-place sizes place size (omega arith) p.read p.free in
     rw (one_shl (62 - place % 63) 64 (omega arith))
-    (mark-room (get_or marks (place / 63) 0) (bitmap 63 (place / 63) (sized sizes)) (place % 63) (s.marked (place / 63) (omega arith)) count (omega arith) bit)
+    (mark-room (get_or marks (place / 63) 0) (bitmap 63 (place / 63) (sized sizes)) (place % 63)
+    (s.marked (place / 63) (omega arith)) count (omega arith) bit)
 
-pub store-put : (buffer sizes marks tile after : List ℕ) (last place size : ℕ) → IsStore buffer sizes marks last → Puts sizes buffer tile place size → after ≡ overwritten (10 * place) tile buffer →
-    IsStore after (set sizes place (length tile)) (set marks (place / 63) (get_or marks (place / 63) 0 + 1 * 2 ^ (62 - place % 63) % 2 ^ 64)) last
+pub store-put : (buffer sizes marks tile after : List ℕ) (last place size : ℕ)
+    → IsStore buffer sizes marks last → Puts sizes buffer tile place size
+    → after ≡ overwritten (10 * place) tile buffer →
+    IsStore after (set sizes place (length tile))
+    (set marks (place / 63) (get_or marks (place / 63) 0 + 1 * 2 ^ (62 - place % 63) % 2 ^ 64))
+    last
 store-put buffer sizes marks tile after last place size s p e =
     let there = p.there in
     let most = p.most in
     let all = s.all_places in
     let bytes = s.all_bytes in
-    let marked = marked-set marks (sized sizes) place s.all_windows (length-sized sizes ∙ all) there (free-place sizes place size (omega arith) p.read p.free) s.marked in
+    let marked =
+    marked-set marks (sized sizes) place s.all_windows (length-sized sizes ∙ all) there
+    (free-place sizes place size (omega arith) p.read p.free) s.marked in
     rw (one_shl (62 - place % 63) 64 (omega arith))
     record {
       all_bytes = rw (e, length-overwritten (10 * place) tile buffer (omega arith)) bytes;
@@ -104,32 +139,44 @@ store-put buffer sizes marks tile after last place size s p e =
       all_windows = length-set marks (place / 63) _ ∙ s.all_windows;
       small = small-set sizes place (length tile) most s.small;
       last_small = s.last_small;
-      marked = λ w h. marked w h ∙ ap (λ bits. bits_value (bitmap 63 w bits)) (sym (sized-put sizes place (length tile) p.some));
+      marked = λ w h. marked w h
+          ∙ ap (λ bits. bits_value (bitmap 63 w bits))
+          (sym (sized-put sizes place (length tile) p.some));
     }
   where
-    sized-put : (sizes : List ℕ) (place size : ℕ) → 1 ≤ size → sized (set sizes place size) ≡ set (sized sizes) place true
+    sized-put : (sizes : List ℕ) (place size : ℕ) → 1 ≤ size
+        → sized (set sizes place size) ≡ set (sized sizes) place true
     sized-put sizes place zero some = absurd (omega arith)
     sized-put sizes place (suc more) some = sized-set sizes place more
 
-pub tiles-put : (buffer sizes marks tile after : List ℕ) (last place size : ℕ) → IsStore buffer sizes marks last → Puts sizes buffer tile place size → after ≡ overwritten (10 * place) tile buffer →
-    places (set sizes place (length tile)) after ≡ keep place (octets tile ∷ []) (places sizes buffer)
+pub tiles-put : (buffer sizes marks tile after : List ℕ) (last place size : ℕ)
+    → IsStore buffer sizes marks last → Puts sizes buffer tile place size
+    → after ≡ overwritten (10 * place) tile buffer →
+    places (set sizes place (length tile)) after ≡ keep place (octets tile ∷ [])
+    (places sizes buffer)
 tiles-put buffer sizes marks tile after last place size s p e =
     let there = p.there in
     let all = s.all_places in
     let bytes = s.all_bytes in
     rw e
-    (places-put place (10 * place) sizes buffer tile refl (omega arith) (omega arith) s.small (sym (get_or_read sizes place size (omega arith) p.read 0) ∙ p.free) p.some p.most)
+    (places-put place (10 * place) sizes buffer tile refl (omega arith) (omega arith) s.small
+    (sym (get_or_read sizes place size (omega arith) p.read 0) ∙ p.free) p.some p.most)
 
-pub last-put : (buffer sizes marks tile after : List ℕ) (last place size : ℕ) → IsStore buffer sizes marks last → Puts sizes buffer tile place size → after ≡ overwritten (10 * place) tile buffer →
+pub last-put : (buffer sizes marks tile after : List ℕ) (last place size : ℕ)
+    → IsStore buffer sizes marks last → Puts sizes buffer tile place size
+    → after ≡ overwritten (10 * place) tile buffer →
     octets (take last (drop 2520 after)) ≡ octets (take last (drop 2520 buffer))
 last-put buffer sizes marks tile after last place size s p e =
     let there = p.there in
     let most = p.most in
     let bytes = s.all_bytes in
-    rw e (ap (λ bs. octets (take last bs)) (drop-behind 2520 (10 * place) tile buffer (omega arith) (omega arith)))
+    rw e (ap (λ bs. octets (take last bs))
+    (drop-behind 2520 (10 * place) tile buffer (omega arith) (omega arith)))
 
 -- the store after the tile of an All-1 is written
-pub store-last : (buffer sizes marks tile after : List ℕ) (last : ℕ) → IsStore buffer sizes marks last → length tile ≤ 10 → after ≡ overwritten 2520 tile buffer → IsStore after sizes marks (length tile)
+pub store-last : (buffer sizes marks tile after : List ℕ) (last : ℕ)
+    → IsStore buffer sizes marks last → length tile ≤ 10 → after ≡ overwritten 2520 tile buffer
+    → IsStore after sizes marks (length tile)
 store-last buffer sizes marks tile after last s most e =
     let bytes = s.all_bytes in
     record {
@@ -141,13 +188,17 @@ store-last buffer sizes marks tile after last s most e =
       marked = s.marked;
     }
 
-pub tiles-last : (buffer sizes marks tile after : List ℕ) (last : ℕ) → IsStore buffer sizes marks last → after ≡ overwritten 2520 tile buffer → places sizes after ≡ places sizes buffer
+pub tiles-last : (buffer sizes marks tile after : List ℕ) (last : ℕ)
+    → IsStore buffer sizes marks last → after ≡ overwritten 2520 tile buffer
+    → places sizes after ≡ places sizes buffer
 tiles-last buffer sizes marks tile after last s e =
     let bytes = s.all_bytes in
     let all = s.all_places in
     rw e (places-behind 2520 sizes buffer tile (omega arith) (omega arith) s.small)
 
-pub last-last : (buffer sizes marks tile after : List ℕ) (last : ℕ) → IsStore buffer sizes marks last → after ≡ overwritten 2520 tile buffer → octets (take (length tile) (drop 2520 after)) ≡ octets tile
+pub last-last : (buffer sizes marks tile after : List ℕ) (last : ℕ)
+    → IsStore buffer sizes marks last → after ≡ overwritten 2520 tile buffer
+    → octets (take (length tile) (drop 2520 after)) ≡ octets tile
 last-last buffer sizes marks tile after last s e =
     let bytes = s.all_bytes in
     rw e (ap octets (taken-overwritten 2520 tile buffer (omega arith)))

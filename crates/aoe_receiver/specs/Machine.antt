@@ -15,7 +15,8 @@ kept_data (Some last) tile = Some (last_data last tile)
 
 abbrev pub data_of : Stage → Store → AoeReceiverData
 data_of (stage.Empty abort) store = Empty abort
-data_of (stage.Gathering kept answer) store = Gathering store.tiles (kept_data kept store.last) answer
+data_of (stage.Gathering kept answer) store =
+    Gathering store.tiles (kept_data kept store.last) answer
 data_of (stage.Finished last answer) store = Finished store.tiles (last_data last store.last) answer
 
 -- the window of an All-1 is one of the four

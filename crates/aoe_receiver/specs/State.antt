@@ -1,23 +1,28 @@
 -- RFC 8724, section 8.4.3.2: what a receiver of ACK-on-Error keeps.
-use Rattle.std.specs.Prelude.{ℕ, ◌+◌, ◌/◌, ◌%◌, ◌≡◌, ◌<◌, ◌≤◌, zero, suc, Bool, false, List, [], ◌∷◌, length, take, drop, replicate, Option, Some, None}
+use Rattle.std.specs.Prelude.{ℕ, ◌+◌, ◌/◌, ◌%◌, ◌≡◌, ◌<◌, ◌≤◌, zero, suc, Bool, false, List, []}
+use Rattle.std.specs.Prelude.{◌∷◌, length, take, drop, replicate, Option, Some, None}
 use Rattle.std.specs.List.{AllByRecursion}
 use Rattle.schc_ids.specs.declared.phases.ReceiverPhase.{ReceiverPhase}
 use Rattle.schc_ids.specs.declared.phases.ReceiverPhase.TheVariants as phase
 use Rattle.frag_wire.specs.declared.message.Message.{Message}
 use Rattle.frag_wire.specs.declared.message.Message.TheVariants as form
 
--- an All-1: its window, its RCS, and its tile, which has no bits where the last tile came in a Regular
+-- an All-1: its window, its RCS, and its tile, which has no bits where the last tile came in a
+-- Regular
 pub record LastData : Type 0 where
   pub w : ℕ
   pub rcs : ℕ
   pub tile : List Bool
 
--- a place for each tile of the four windows (RFC 9011, section 5.6.2), by its index: the tile, where it is held. While nothing
+-- a place for each tile of the four windows (RFC 9011, section 5.6.2), by its index: the tile,
+-- where it is held. While nothing
 -- is kept, a Receiver-Abort may be due; else an answer may be due. The latest All-1 is kept.
 pub data AoeReceiverData : Type 0 where
   Empty : (abort : Bool) → AoeReceiverData
-  Gathering : (tiles : List (Option (List Bool))) → (kept : Option LastData) → (answer : Bool) → AoeReceiverData
-  Finished : (tiles : List (Option (List Bool))) → (last : LastData) → (answer : Bool) → AoeReceiverData
+  Gathering : (tiles : List (Option (List Bool))) → (kept : Option LastData) → (answer : Bool)
+      → AoeReceiverData
+  Finished : (tiles : List (Option (List Bool))) → (last : LastData) → (answer : Bool)
+      → AoeReceiverData
 
 -- no place holds a tile
 unfoldable pub no_tiles : List (Option (List Bool))
@@ -63,7 +68,8 @@ unfoldable pub parts_of_ten : ℕ → List Bool → List (List Bool)
 parts_of_ten zero bits = []
 parts_of_ten (suc count) bits = take 80 bits ∷ parts_of_ten count (drop 80 bits)
 
--- RFC 8724, section 8.4.3.1, and RFC 9011, section 5.6.2: the tiles of a Regular's payload, ten bytes each, the last may be shorter
+-- RFC 8724, section 8.4.3.1, and RFC 9011, section 5.6.2: the tiles of a Regular's payload, ten
+-- bytes each, the last may be shorter
 unfoldable pub payload_tiles : List Bool → List (List Bool)
 payload_tiles payload = parts_of_ten ((length payload + 79) / 80) payload
 

@@ -1,6 +1,8 @@
--- RFC 8724, section 8.4.3.2: the steps of a receiver of ACK-on-Error. Each message that it takes, each answer that it gives and
+-- RFC 8724, section 8.4.3.2: the steps of a receiver of ACK-on-Error. Each message that it takes,
+-- each answer that it gives and
 -- each timer that is due is a case for each state.
-use Rattle.std.specs.Prelude.{ℕ, ◌+◌, ◌*◌, ◌==◌, Bool, true, false, ◌&&◌, if◌then◌else◌, List, [], ◌∷◌, ◌++◌, length, take, drop, Option, Some, None}
+use Rattle.std.specs.Prelude.{ℕ, ◌+◌, ◌*◌, ◌==◌, Bool, true, false, ◌&&◌, if◌then◌else◌, List, []}
+use Rattle.std.specs.Prelude.{◌∷◌, ◌++◌, length, take, drop, Option, Some, None}
 use Rattle.std.specs.Option.{option_map}
 use Rattle.schc_bits.specs.Bits.{bits_value}
 use Rattle.schc_ids.specs.declared.fragments.FragMode.TheVariants.{AckOnError}
@@ -12,10 +14,13 @@ use Rattle.frag_wire.specs.declared.message.Message.TheVariants as form
 use Rattle.frag_wire.specs.Layouts.{written}
 use Rattle.rcs.specs.Division.{rcs_of}
 use Rattle.tiles_bitmap.specs.Numbers.{tile_index}
-use Rattle.tiles_bitmap.specs.Places.{keep, held_bits, joined_tiles, all_true, no_gap, open_window, bitmap, with_last}
-use Rattle.aoe_receiver.specs.State.{LastData, AoeReceiverData, Empty, Gathering, Finished, no_tiles, payload_tiles}
+use Rattle.tiles_bitmap.specs.Places.{keep, held_bits, joined_tiles, all_true, no_gap, open_window}
+use Rattle.tiles_bitmap.specs.Places.{bitmap, with_last}
+use Rattle.aoe_receiver.specs.State.{LastData, AoeReceiverData, Empty, Gathering, Finished}
+use Rattle.aoe_receiver.specs.State.{no_tiles, payload_tiles}
 
--- RFC 8724, section 8.4.3.2: the tiles that are held of the windows up to that of the All-1, in the order of their indices, and
+-- RFC 8724, section 8.4.3.2: the tiles that are held of the windows up to that of the All-1, in the
+-- order of their indices, and
 -- then the All-1's tile
 unfoldable pub assembly : List (Option (List Bool)) → LastData → List Bool
 assembly tiles last = joined_tiles (take (63 * (last.w + 1)) tiles) ++ last.tile
@@ -41,8 +46,11 @@ all_held place count tiles = all_true (take count (drop place (held_bits tiles))
 -- a Regular: a place that holds a tile keeps it
 unfoldable pub regular_step : ℕ → List (List Bool) → AoeReceiverData → AoeReceiverData × Note
 regular_step place new (Empty abort) = (Empty abort, note.Remnant)
-regular_step place new (Gathering tiles kept answer) =
-    (Gathering (keep place new tiles) kept answer, if all_held place (length new) tiles then note.Repeat else note.Stored)
+regular_step place new (Gathering tiles kept answer) = (
+  Gathering (keep place new tiles) kept answer,
+  if all_held place (length new) tiles
+      then note.Repeat else note.Stored,
+)
 regular_step place new (Finished tiles last answer) = (Finished tiles last answer, note.Remnant)
 
 -- the check was made, and passed or didn't
@@ -108,7 +116,8 @@ ack_req_check (Finished tiles last answer) = None
 -- a message makes a check: an All-1 while tiles are gathered, and an ACK REQ when an All-1 is kept
 unfoldable pub check_made : Message → List Bool → AoeReceiverData → Option CheckData
 check_made (form.Regular w fcn from) payload receiver = None
-check_made (form.All1 w rcs from) payload receiver = all1_check (last_of w rcs payload) (begun receiver)
+check_made (form.All1 w rcs from) payload receiver =
+    all1_check (last_of w rcs payload) (begun receiver)
 check_made (form.AckReq w) payload receiver = ack_req_check (begun receiver)
 check_made form.SenderAbort payload receiver = None
 check_made (form.Ack w c bits) payload receiver = None
@@ -116,11 +125,13 @@ check_made form.ReceiverAbort payload receiver = None
 
 -- the assembly over which this message makes the check, also where windows aren't full
 unfoldable pub checked : Message → List Bool → AoeReceiverData → Option (List Bool)
-checked message payload receiver = option_map (λ check. assembly check.tiles check.last) (check_made message payload receiver)
+checked message payload receiver =
+    option_map (λ check. assembly check.tiles check.last) (check_made message payload receiver)
 
 unfoldable pub if_passed : Option CheckData → Option (List Bool)
 if_passed None = None
-if_passed (Some check) = if passes check.tiles check.last then Some (assembly check.tiles check.last) else None
+if_passed (Some check) =
+    if passes check.tiles check.last then Some (assembly check.tiles check.last) else None
 
 -- the same, where the check passes
 unfoldable pub previewed : Message → List Bool → AoeReceiverData → Option (List Bool)
@@ -138,25 +149,29 @@ lapsed (Empty abort) = Empty abort
 lapsed (Gathering tiles kept answer) = Gathering tiles kept answer
 lapsed (Finished tiles last answer) = Empty false
 
--- RFC 8724, section 8.4.3.2: the window that an answer names: the lowest below that of the All-1 that isn't full, else that of
+-- RFC 8724, section 8.4.3.2: the window that an answer names: the lowest below that of the All-1
+-- that isn't full, else that of
 -- the All-1; without an All-1 the last of the four stands for it
 unfoldable pub named_window : Option LastData → List Bool → ℕ
 named_window None bits = open_window 63 3 bits
 named_window (Some last) bits = open_window 63 last.w bits
 
--- RFC 8724, section 8.2.2.3: the rightmost bit of the All-1's window also stands for the All-1's tile, where it has one
+-- RFC 8724, section 8.2.2.3: the rightmost bit of the All-1's window also stands for the All-1's
+-- tile, where it has one
 unfoldable pub with_tile : List Bool → List Bool → List Bool
 with_tile [] bits = bits
 with_tile (bit ∷ tile) bits = with_last bits
 
 unfoldable pub window_bits : Option LastData → ℕ → List Bool → List Bool
 window_bits None w bits = bitmap 63 w bits
-window_bits (Some last) w bits = if w == last.w then with_tile last.tile (bitmap 63 w bits) else bitmap 63 w bits
+window_bits (Some last) w bits =
+    if w == last.w then with_tile last.tile (bitmap 63 w bits) else bitmap 63 w bits
 
 -- the answer while tiles are gathered
 unfoldable pub gathering_answer : Option LastData → List Bool → Message
 gathering_answer kept bits =
-    form.Ack (named_window kept bits) false (bits_value (window_bits kept (named_window kept bits) bits))
+    form.Ack (named_window kept bits) false
+    (bits_value (window_bits kept (named_window kept bits) bits))
 
 -- the answer that is due
 unfoldable pub due_answer : AoeReceiverData → Option Message
@@ -169,7 +184,8 @@ due_answer (Finished tiles last false) = None
 
 -- its bytes, made from what is kept when it is given
 unfoldable pub due_bytes : AoeReceiverData → Option (List ℕ)
-due_bytes receiver = option_map (λ message. written (params_of AckOnError) message []) (due_answer receiver)
+due_bytes receiver =
+    option_map (λ message. written (params_of AckOnError) message []) (due_answer receiver)
 
 -- the answer that was due was given
 unfoldable pub answered : AoeReceiverData → AoeReceiverData

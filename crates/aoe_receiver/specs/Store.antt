@@ -1,5 +1,7 @@
--- How tiles are kept in one buffer of bytes: ten bytes for each place, and behind them ten for the All-1's tile.
-use Rattle.std.specs.Prelude.{ℕ, ◌≡◌, ◌<◌, ◌≤◌, zero, suc, Bool, true, false, List, [], ◌∷◌, ◌++◌, length, take, drop, get_or, Option, Some, None}
+-- How tiles are kept in one buffer of bytes: ten bytes for each place, and behind them ten for the
+-- All-1's tile.
+use Rattle.std.specs.Prelude.{ℕ, ◌≡◌, ◌<◌, ◌≤◌, zero, suc, Bool, true, false, List, [], ◌∷◌, ◌++◌}
+use Rattle.std.specs.Prelude.{length, take, drop, get_or, Option, Some, None}
 use Rattle.std.specs.List.{AllByRecursion}
 use Rattle.schc_bits.specs.Bits.{bits_value, octets}
 use Rattle.tiles_bitmap.specs.Places.{bitmap}
@@ -32,7 +34,8 @@ unfoldable pub sized : List ℕ → List Bool
 sized [] = []
 sized (size ∷ sizes) = is_sized size ∷ sized sizes
 
--- the buffer, the sizes and the size of the All-1's tile stand for places; a number a window says which places hold a tile
+-- the buffer, the sizes and the size of the All-1's tile stand for places; a number a window says
+-- which places hold a tile
 pub record IsStore (buffer : List ℕ) (sizes : List ℕ) (marks : List ℕ) (last : ℕ) : Type 0 where
   pub all_bytes : length buffer ≡ 2530
   pub all_places : length sizes ≡ 252

@@ -4,7 +4,9 @@ use Rattle.std.proofs.Common.{arith, ap, refl, sym, ◌∙◌, inl, inr}
 use Rattle.std.proofs.lemmas.Bool.{cases_lt}
 use Rattle.std.proofs.lemmas.List.{append_assoc, length-append, drop_at}
 use Rattle.schc_bits.specs.Bits.{AreBytes}
-use Rattle.coap_fields.specs.Message.{OptionData, Message, next_place, IsOption, AreOptions, IsMessage, nibble, extension, option_spelled, options_spelled, payload_spelled, header_spelled, spelled}
+use Rattle.coap_fields.specs.Message.{OptionData, Message, next_place, IsOption, AreOptions}
+use Rattle.coap_fields.specs.Message.{IsMessage, nibble, extension, option_spelled, options_spelled}
+use Rattle.coap_fields.specs.Message.{payload_spelled, header_spelled, spelled}
 use Rattle.coap_fields.proofs.NumberLemmas.{nibble-low, nibble-middle, nibble-high, nibble-small}
 
 pub bytes_append : (front back : List ℕ) → AreBytes front → AreBytes back → AreBytes (front ++ back)
@@ -24,19 +26,27 @@ extension_bytes n m =
 first_byte : (a b : ℕ) → a < 15 → b < 15 → 16 * a + b < 256
 first_byte a b h k = omega arith
 
-option_bytes : (before place : ℕ) (o : OptionData) → IsOption before place o → AreBytes (option_spelled before o)
+option_bytes : (before place : ℕ) (o : OptionData) → IsOption before place o
+    → AreBytes (option_spelled before o)
 option_bytes before place o h =
     let delta : ℕ = o.number - before in
     let small : delta ≤ 65804 = omega (arith, h.number) in (
-      first_byte (nibble delta) (nibble (length o.value)) (nibble-small delta) (nibble-small (length o.value)),
-      bytes_append (extension delta) (extension (length o.value) ++ o.value) (extension_bytes delta small) (bytes_append (extension (length o.value)) o.value (extension_bytes (length o.value) h.size) h.bytes),
+      first_byte (nibble delta) (nibble (length o.value)) (nibble-small delta)
+          (nibble-small (length o.value)),
+      bytes_append (extension delta) (extension (length o.value) ++ o.value)
+          (extension_bytes delta small)
+          (bytes_append (extension (length o.value)) o.value
+          (extension_bytes (length o.value) h.size) h.bytes),
     )
 
-options_bytes : (before place : ℕ) (options : List OptionData) → AreOptions before place options → AreBytes (options_spelled before options)
+options_bytes : (before place : ℕ) (options : List OptionData) → AreOptions before place options
+    → AreBytes (options_spelled before options)
 unfolding options_spelled
 options_bytes before place [] h = tt
 options_bytes before place (o ∷ options) h =
-    bytes_append (option_spelled before o) (options_spelled o.number options) (option_bytes before place o h.0) (options_bytes o.number (next_place before place o.number) options h.1)
+    bytes_append (option_spelled before o) (options_spelled o.number options)
+    (option_bytes before place o h.0)
+    (options_bytes o.number (next_place before place o.number) options h.1)
 
 payload_bytes : (payload : List ℕ) → AreBytes payload → AreBytes (payload_spelled payload)
 payload_bytes [] a = tt
@@ -53,8 +63,10 @@ spelled_bytes m h = (
       omega (arith, h.id),
       (
         omega arith,
-        bytes_append m.token (options_spelled 0 m.options ++ payload_spelled m.payload) h.token_bytes
-            (bytes_append (options_spelled 0 m.options) (payload_spelled m.payload) (options_bytes 0 0 m.options h.options) (payload_bytes m.payload h.payload_bytes)),
+        bytes_append m.token (options_spelled 0 m.options ++ payload_spelled m.payload)
+            h.token_bytes
+            (bytes_append (options_spelled 0 m.options) (payload_spelled m.payload)
+            (options_bytes 0 0 m.options h.options) (payload_bytes m.payload h.payload_bytes)),
       ),
     ),
   ),
@@ -77,16 +89,21 @@ unfolding spelled
 spelled-front m =
     let options : List ℕ = options_spelled 0 m.options in
     let last : options ++ payload_spelled m.payload ≡ (options ++ marker m.payload) ++ m.payload =
-    ap (λ x. options ++ x) (marked m.payload) ∙ sym (append_assoc options (marker m.payload) m.payload)
+    ap (λ x. options ++ x) (marked m.payload)
+    ∙ sym (append_assoc options (marker m.payload) m.payload)
     in
     ap (λ x. header_spelled m ++ (m.token ++ x)) last
-    ∙ ap (λ x. header_spelled m ++ x) (sym (append_assoc m.token (options ++ marker m.payload) m.payload))
+    ∙ ap (λ x. header_spelled m ++ x)
+    (sym (append_assoc m.token (options ++ marker m.payload) m.payload))
 
-ends_with : (front back : List ℕ) → drop (length (front ++ back) - length back) (front ++ back) ≡ back
+ends_with : (front back : List ℕ)
+    → drop (length (front ++ back) - length back) (front ++ back) ≡ back
 ends_with front back =
-    let count : length (front ++ back) - length back ≡ length front = omega (arith, length-append front back) in
+    let count : length (front ++ back) - length back ≡ length front =
+    omega (arith, length-append front back) in
     rw count (drop_at front back (length front) refl)
 
 -- the payload stands at the end
-pub spelled-payload : (m : Message) → drop (length (spelled m) - length m.payload) (spelled m) ≡ m.payload
+pub spelled-payload : (m : Message)
+    → drop (length (spelled m) - length m.payload) (spelled m) ≡ m.payload
 spelled-payload m = rw (spelled-front m) (ends_with (front_of m) m.payload)

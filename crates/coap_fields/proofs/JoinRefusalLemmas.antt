@@ -8,27 +8,38 @@ use Rattle.rule_model.specs.First.{first_held}
 use Rattle.rule_model.proofs.FirstLemmas.{first_held-append_some, first_held-append_none}
 use Rattle.coap_fields.specs.Join.{presence, order, value_refusals, gaps, join_refusal}
 
-pub refused-presence : (fields : List FieldValue) (fault : JoinFault) → first_held (presence fields coap_fields) ≡ Some fault → join_refusal fields ≡ Some fault
+pub refused-presence : (fields : List FieldValue) (fault : JoinFault)
+    → first_held (presence fields coap_fields) ≡ Some fault → join_refusal fields ≡ Some fault
 unfolding join_refusal
 refused-presence fields fault e =
-    first_held-append_some (presence fields coap_fields) (order 0 0 fields ++ (value_refusals fields ++ gaps 0 0 fields)) fault e
+    first_held-append_some (presence fields coap_fields)
+    (order 0 0 fields ++ (value_refusals fields ++ gaps 0 0 fields)) fault e
 
-pub refused-order : (fields : List FieldValue) (fault : JoinFault) → first_held (presence fields coap_fields) ≡ None → first_held (order 0 0 fields) ≡ Some fault → join_refusal fields ≡ Some fault
+pub refused-order : (fields : List FieldValue) (fault : JoinFault)
+    → first_held (presence fields coap_fields) ≡ None → first_held (order 0 0 fields) ≡ Some fault
+    → join_refusal fields ≡ Some fault
 unfolding join_refusal
 refused-order fields fault p e =
-    first_held-append_none (presence fields coap_fields) (order 0 0 fields ++ (value_refusals fields ++ gaps 0 0 fields)) p
+    first_held-append_none (presence fields coap_fields)
+    (order 0 0 fields ++ (value_refusals fields ++ gaps 0 0 fields)) p
     ∙ first_held-append_some (order 0 0 fields) (value_refusals fields ++ gaps 0 0 fields) fault e
 
-pub refused-values : (fields : List FieldValue) (fault : JoinFault) → first_held (presence fields coap_fields) ≡ None → first_held (order 0 0 fields) ≡ None → first_held (value_refusals fields) ≡ Some fault → join_refusal fields ≡ Some fault
+pub refused-values : (fields : List FieldValue) (fault : JoinFault)
+    → first_held (presence fields coap_fields) ≡ None → first_held (order 0 0 fields) ≡ None
+    → first_held (value_refusals fields) ≡ Some fault → join_refusal fields ≡ Some fault
 unfolding join_refusal
 refused-values fields fault p o e =
-    first_held-append_none (presence fields coap_fields) (order 0 0 fields ++ (value_refusals fields ++ gaps 0 0 fields)) p
+    first_held-append_none (presence fields coap_fields)
+    (order 0 0 fields ++ (value_refusals fields ++ gaps 0 0 fields)) p
     ∙ first_held-append_none (order 0 0 fields) (value_refusals fields ++ gaps 0 0 fields) o
     ∙ first_held-append_some (value_refusals fields) (gaps 0 0 fields) fault e
 
-pub refused-gaps : (fields : List FieldValue) → first_held (presence fields coap_fields) ≡ None → first_held (order 0 0 fields) ≡ None → first_held (value_refusals fields) ≡ None → join_refusal fields ≡ first_held (gaps 0 0 fields)
+pub refused-gaps : (fields : List FieldValue) → first_held (presence fields coap_fields) ≡ None
+    → first_held (order 0 0 fields) ≡ None → first_held (value_refusals fields) ≡ None
+    → join_refusal fields ≡ first_held (gaps 0 0 fields)
 unfolding join_refusal
 refused-gaps fields p o c =
-    first_held-append_none (presence fields coap_fields) (order 0 0 fields ++ (value_refusals fields ++ gaps 0 0 fields)) p
+    first_held-append_none (presence fields coap_fields)
+    (order 0 0 fields ++ (value_refusals fields ++ gaps 0 0 fields)) p
     ∙ first_held-append_none (order 0 0 fields) (value_refusals fields ++ gaps 0 0 fields) o
     ∙ first_held-append_none (value_refusals fields) (gaps 0 0 fields) c

@@ -8,7 +8,10 @@ use Rattle.coap_fields.specs.Join.{join_refusal, message_of, message_from}
 use Rattle.coap_fields.proofs.JoinLemmas.{IsMade, made}
 use Rattle.coap_fields.proofs.BytesLemmas.{spelled_bytes, spelled-payload}
 
-pub made-fields : (fields : List FieldValue) (payload : List ℕ) → AreBytes payload → join_refusal fields ≡ None → MessageOf (message_from fields payload) fields (length (message_from fields payload) - length payload)
+pub made-fields : (fields : List FieldValue) (payload : List ℕ) → AreBytes payload
+    → join_refusal fields ≡ None
+    → MessageOf (message_from fields payload) fields
+    (length (message_from fields payload) - length payload)
 unfolding message_from
 made-fields fields payload a e =
     let m : IsMade fields payload = made fields payload e in
@@ -20,10 +23,14 @@ made-fields fields payload a e =
       its_payload = refl;
     }
 
-pub made-payload : (fields : List FieldValue) (payload : List ℕ) → drop (length (message_from fields payload) - length payload) (message_from fields payload) ≡ payload
+pub made-payload : (fields : List FieldValue) (payload : List ℕ)
+    → drop (length (message_from fields payload) - length payload)
+    (message_from fields payload) ≡ payload
 unfolding message_from
 made-payload fields payload = spelled-payload (message_of fields payload)
 
-pub made-bytes : (fields : List FieldValue) (payload : List ℕ) → AreBytes payload → join_refusal fields ≡ None → AreBytes (message_from fields payload)
+pub made-bytes : (fields : List FieldValue) (payload : List ℕ) → AreBytes payload
+    → join_refusal fields ≡ None → AreBytes (message_from fields payload)
 unfolding message_from
-made-bytes fields payload a e = spelled_bytes (message_of fields payload) ((made fields payload e).is_message a)
+made-bytes fields payload a e =
+    spelled_bytes (message_of fields payload) ((made fields payload e).is_message a)

@@ -1,5 +1,7 @@
 -- The numbers of options: four bits, and the bytes after them.
-use Rattle.std.specs.Prelude.{ℕ, ◌≡◌, ◌+◌, ◌-◌, ◌*◌, ◌/◌, ◌%◌, ◌<◌, ◌≤◌, if◌then◌else◌, Bool, true, false, List, [], ◌∷◌, ◌++◌, length, Option, Some, None, Result, Ok, Err}
+use Rattle.std.specs.Prelude.{ℕ, ◌≡◌, ◌+◌, ◌-◌, ◌*◌, ◌/◌, ◌%◌, ◌<◌, ◌≤◌, if◌then◌else◌, Bool, true}
+use Rattle.std.specs.Prelude.{false, List, [], ◌∷◌, ◌++◌, length, Option, Some, None, Result, Ok}
+use Rattle.std.specs.Prelude.{Err}
 use Rattle.std.proofs.Common.{arith, ap, refl, sym, ◌∙◌, subst, inl, inr}
 use Rattle.std.proofs.lemmas.Bool.{cases_lt, lt-ltb, le-ltb, cases_eq, eq-eqb, ne_eqb}
 use Rattle.schc_bits.specs.Bits.{AreBytes}
@@ -21,7 +23,8 @@ nibble-low n h = (rw (lt-ltb n 13 h), rw (lt-ltb n 13 h))
 pub nibble-middle : (n : ℕ) → 13 ≤ n → n < 269 → (nibble n ≡ 13) × (extension n ≡ (n - 13) ∷ [])
 nibble-middle n h k = (rw (le-ltb n 13 h, lt-ltb n 269 k), rw (le-ltb n 13 h, lt-ltb n 269 k))
 
-pub nibble-high : (n : ℕ) → 269 ≤ n → (nibble n ≡ 14) × (extension n ≡ (n - 269) / 256 ∷ (n - 269) % 256 ∷ [])
+pub nibble-high : (n : ℕ) → 269 ≤ n → (nibble n ≡ 14)
+    × (extension n ≡ (n - 269) / 256 ∷ (n - 269) % 256 ∷ [])
 nibble-high n h =
     let l : 13 ≤ n = omega arith in
     (rw (le-ltb n 13 l, le-ltb n 269 h), rw (le-ltb n 13 l, le-ltb n 269 h))
@@ -49,7 +52,8 @@ unfolding extended
 extended-14 bytes = refl
 
 -- a number that was spelled is read
-pub extended-again : (n : ℕ) (rest : List ℕ) → extended (nibble n) (extension n ++ rest) ≡ Some (n, rest)
+pub extended-again : (n : ℕ) (rest : List ℕ)
+    → extended (nibble n) (extension n ++ rest) ≡ Some (n, rest)
 extended-again n rest =
     elim (cases_lt n 13) [
       | inl low ↦
@@ -60,7 +64,13 @@ extended-again n rest =
             rw ((nibble-middle n h k).0, (nibble-middle n h k).1, extended-13 ((n - 13) ∷ rest), e)
         | inr k ↦
             let e : 269 + 256 * ((n - 269) / 256) + (n - 269) % 256 ≡ n = omega arith in
-            rw ((nibble-high n k).0, (nibble-high n k).1, extended-14 ((n - 269) / 256 ∷ (n - 269) % 256 ∷ rest), e)
+            rw (
+              (nibble-high n k).0,
+              (nibble-high n k).1,
+              extended-14
+                  ((n - 269) / 256 ∷ (n - 269) % 256 ∷ rest),
+              e,
+            )
       ]
     ]
 
@@ -71,7 +81,8 @@ pub record IsNumber (bits : ℕ) (bytes : List ℕ) (n : ℕ) (rest : List ℕ) 
   pub most : n ≤ 65804
   pub rest_bytes : AreBytes rest
 
-low-takes : (bits : ℕ) (bytes : List ℕ) (n : ℕ) (rest : List ℕ) → bits < 13 → AreBytes bytes → bits ≡ n → bytes ≡ rest → IsNumber bits bytes n rest
+low-takes : (bits : ℕ) (bytes : List ℕ) (n : ℕ) (rest : List ℕ) → bits < 13 → AreBytes bytes
+    → bits ≡ n → bytes ≡ rest → IsNumber bits bytes n rest
 low-takes bits bytes n rest h a e f =
     let below : n < 13 = omega arith in
     record {
@@ -81,7 +92,8 @@ low-takes bits bytes n rest h a e f =
       rest_bytes = subst AreBytes f a;
     }
 
-one-takes : (bytes : List ℕ) (n : ℕ) (rest : List ℕ) → AreBytes bytes → one_more bytes ≡ Some (n, rest) → IsNumber 13 bytes n rest
+one-takes : (bytes : List ℕ) (n : ℕ) (rest : List ℕ) → AreBytes bytes
+    → one_more bytes ≡ Some (n, rest) → IsNumber 13 bytes n rest
 one-takes [] n rest a e = absurd (cc)
 one-takes (byte ∷ bytes) n rest a e =
     let parts : (13 + byte ≡ n) × (bytes ≡ rest) = some_pair (13 + byte) n bytes rest e in
@@ -95,11 +107,13 @@ one-takes (byte ∷ bytes) n rest a e =
       rest_bytes = subst AreBytes parts.1 a.1;
     }
 
-two-takes : (bytes : List ℕ) (n : ℕ) (rest : List ℕ) → AreBytes bytes → two_more bytes ≡ Some (n, rest) → IsNumber 14 bytes n rest
+two-takes : (bytes : List ℕ) (n : ℕ) (rest : List ℕ) → AreBytes bytes
+    → two_more bytes ≡ Some (n, rest) → IsNumber 14 bytes n rest
 two-takes [] n rest a e = absurd (cc)
 two-takes (byte ∷ []) n rest a e = absurd (cc)
 two-takes (high ∷ low ∷ bytes) n rest a e =
-    let parts : (269 + 256 * high + low ≡ n) × (bytes ≡ rest) = some_pair (269 + 256 * high + low) n bytes rest e in
+    let parts : (269 + 256 * high + low ≡ n) × (bytes ≡ rest) =
+    some_pair (269 + 256 * high + low) n bytes rest e in
     let above : 269 ≤ n = omega (arith, parts.0) in
     let first : (n - 269) / 256 ≡ high = omega (arith, parts.0, a.1.0) in
     let second : (n - 269) % 256 ≡ low = omega (arith, parts.0, a.1.0) in
@@ -110,39 +124,48 @@ two-takes (high ∷ low ∷ bytes) n rest a e =
       rest_bytes = subst AreBytes parts.1 a.1.1;
     }
 
-pub extended-takes : (bits : ℕ) (bytes : List ℕ) (n : ℕ) (rest : List ℕ) → bits < 15 → AreBytes bytes → extended bits bytes ≡ Some (n, rest) → IsNumber bits bytes n rest
+pub extended-takes : (bits : ℕ) (bytes : List ℕ) (n : ℕ) (rest : List ℕ) → bits < 15
+    → AreBytes bytes → extended bits bytes ≡ Some (n, rest) → IsNumber bits bytes n rest
 extended-takes bits bytes n rest h a e =
     elim (cases_lt bits 13) [
       | inl low ↦
-          let parts : (bits ≡ n) × (bytes ≡ rest) = some_pair bits n bytes rest (sym (extended-low bits bytes low) ∙ e) in
+          let parts : (bits ≡ n) × (bytes ≡ rest) =
+          some_pair bits n bytes rest (sym (extended-low bits bytes low) ∙ e) in
           low-takes bits bytes n rest low a parts.0 parts.1
       | inr high ↦ elim (cases_lt bits 14) [
         | inl k ↦
             let is : bits ≡ 13 = omega arith in
-            let read : one_more bytes ≡ Some (n, rest) = sym (extended-13 bytes) ∙ ap (λ b. extended b bytes) (sym is) ∙ e in
+            let read : one_more bytes ≡ Some (n, rest) = sym (extended-13 bytes)
+            ∙ ap (λ b. extended b bytes) (sym is) ∙ e in
             subst (λ b. IsNumber b bytes n rest) (sym is) (one-takes bytes n rest a read)
         | inr k ↦
             let is : bits ≡ 14 = omega arith in
-            let read : two_more bytes ≡ Some (n, rest) = sym (extended-14 bytes) ∙ ap (λ b. extended b bytes) (sym is) ∙ e in
+            let read : two_more bytes ≡ Some (n, rest) = sym (extended-14 bytes)
+            ∙ ap (λ b. extended b bytes) (sym is) ∙ e in
             subst (λ b. IsNumber b bytes n rest) (sym is) (two-takes bytes n rest a read)
       ]
     ]
 
 -- bytes that are left are no more than there were
-one-shorter : (bytes : List ℕ) (n : ℕ) (rest : List ℕ) → one_more bytes ≡ Some (n, rest) → length rest ≤ length bytes
+one-shorter : (bytes : List ℕ) (n : ℕ) (rest : List ℕ) → one_more bytes ≡ Some (n, rest)
+    → length rest ≤ length bytes
 one-shorter [] n rest e = absurd (cc)
 one-shorter (byte ∷ bytes) n rest e = rw (← (some_pair (13 + byte) n bytes rest e).1) (omega arith)
 
-two-shorter : (bytes : List ℕ) (n : ℕ) (rest : List ℕ) → two_more bytes ≡ Some (n, rest) → length rest ≤ length bytes
+two-shorter : (bytes : List ℕ) (n : ℕ) (rest : List ℕ) → two_more bytes ≡ Some (n, rest)
+    → length rest ≤ length bytes
 two-shorter [] n rest e = absurd (cc)
 two-shorter (byte ∷ []) n rest e = absurd (cc)
-two-shorter (high ∷ low ∷ bytes) n rest e = rw (← (some_pair (269 + 256 * high + low) n bytes rest e).1) (omega arith)
+two-shorter (high ∷ low ∷ bytes) n rest e =
+    rw (← (some_pair (269 + 256 * high + low) n bytes rest e).1) (omega arith)
 
-pub extended-shorter : (bits : ℕ) (bytes : List ℕ) (n : ℕ) (rest : List ℕ) → extended bits bytes ≡ Some (n, rest) → length rest ≤ length bytes
+pub extended-shorter : (bits : ℕ) (bytes : List ℕ) (n : ℕ) (rest : List ℕ)
+    → extended bits bytes ≡ Some (n, rest) → length rest ≤ length bytes
 unfolding extended
 extended-shorter bits bytes n rest e =
     elim (cases_lt bits 13) [
-      | inl low ↦ rw (← (some_pair bits n bytes rest (sym (extended-low bits bytes low) ∙ e)).1) (omega arith)
+      | inl low ↦ rw (← (some_pair bits n bytes rest (sym (extended-low bits bytes low) ∙ e)).1)
+          (omega arith)
       | inr high ↦ elim (cases_eq bits 13) [
         | inl k ↦ one-shorter bytes n rest (rw (le-ltb bits 13 high, eq-eqb bits 13 k) at e)
         | inr k ↦ two-shorter bytes n rest (rw (le-ltb bits 13 high, ne_eqb bits 13 k) at e)
@@ -150,11 +173,14 @@ extended-shorter bits bytes n rest e =
     ]
 
 -- what goes on after a number was read
-pub then_number-ok : {A : Type 0} (size : ℕ) (read : Option (ℕ × List ℕ)) (next : ℕ → List ℕ → Result A ℕ) (value : A) → then_number size read next ≡ Ok value → (r : ℕ × List ℕ) × (read ≡ Some r) × (next r.0 r.1 ≡ Ok value)
+pub then_number-ok : {A : Type 0} (size : ℕ) (read : Option (ℕ × List ℕ))
+    (next : ℕ → List ℕ → Result A ℕ) (value : A) → then_number size read next ≡ Ok value
+    → (r : ℕ × List ℕ) × (read ≡ Some r) × (next r.0 r.1 ≡ Ok value)
 then_number-ok size None next value e = absurd (cc)
 then_number-ok size (Some r) next value e = (r, refl, e)
 
 -- a test that would refuse didn't hold
-pub guard-ok : {A E : Type 0} (test : Bool) (fault : E) (read : Result A E) (value : A) → (if test then Err fault else read) ≡ Ok value → (test ≡ false) × (read ≡ Ok value)
+pub guard-ok : {A E : Type 0} (test : Bool) (fault : E) (read : Result A E) (value : A)
+    → (if test then Err fault else read) ≡ Ok value → (test ≡ false) × (read ≡ Ok value)
 guard-ok true fault read value e = absurd (cc)
 guard-ok false fault read value e = (refl, e)

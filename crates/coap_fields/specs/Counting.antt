@@ -1,5 +1,6 @@
 -- The same options in plainer words: RFC 7252, sections 3.1 and 5.4.5 (repeatable options).
-use Rattle.std.specs.Prelude.{ℕ, ◌≡◌, ◌↔◌, ◌+◌, ◌==◌, ◌≤◌, if◌then◌else◌, List, [], ◌∷◌, ◌++◌, length}
+use Rattle.std.specs.Prelude.{ℕ, ◌≡◌, ◌↔◌, ◌+◌, ◌==◌, ◌≤◌, if◌then◌else◌, List, [], ◌∷◌, ◌++◌}
+use Rattle.std.specs.Prelude.{length}
 use Rattle.std.specs.List.{AllByRecursion}
 use Rattle.schc_bits.specs.Bits.{AreBytes}
 use Rattle.rule_model.specs.declared.value.FieldValue.{FieldValue}
@@ -28,11 +29,13 @@ pub record AreSpellable (options : List OptionData) : Type 0 where
   pub each : AllByRecursion IsSpellable options
   pub few : (number : ℕ) → repeats number options ≤ 65535
 
--- each option as a field, at the position that counts the options of its number among `earlier` ones and itself
+-- each option as a field, at the position that counts the options of its number among `earlier`
+-- ones and itself
 abbrev pub counted_fields : List OptionData → List OptionData → List FieldValue
 counted_fields earlier [] = []
 counted_fields earlier (o ∷ options) =
-    option_field o.number (repeats o.number earlier + 1) o.value ∷ counted_fields (earlier ++ o ∷ []) options
+    option_field o.number (repeats o.number earlier + 1) o.value ∷ counted_fields
+    (earlier ++ o ∷ []) options
 
 -- options can stand in a message exactly where they are spellable
 abbrev pub AreSpellableExactly : Type 0
@@ -40,4 +43,5 @@ AreSpellableExactly = (options : List OptionData) → AreOptions 0 0 options ↔
 
 -- positions count the options of one number from 1
 abbrev pub CountsPositions : Type 0
-CountsPositions = (options : List OptionData) → AreOptions 0 0 options → option_fields 0 0 options ≡ counted_fields [] options
+CountsPositions = (options : List OptionData) → AreOptions 0 0 options
+    → option_fields 0 0 options ≡ counted_fields [] options

@@ -2,7 +2,9 @@
 use Rattle.std.specs.Prelude.{ℕ, ◌≡◌, ◌-◌, Bool, List, [], ◌∷◌, ◌++◌, length}
 use Rattle.schc_bits.specs.Bits.{number_bits, octets}
 use Rattle.schc_ids.specs.declared.names.FieldName.{FieldName}
-use Rattle.schc_ids.specs.declared.names.FieldName.TheVariants.{CoapVersion, CoapType, CoapTkl, CoapCode, CoapMid, CoapToken, CoapOption}
+use Rattle.schc_ids.specs.declared.names.FieldName.TheVariants.{CoapVersion, CoapType, CoapTkl}
+use Rattle.schc_ids.specs.declared.names.FieldName.TheVariants.{CoapCode, CoapMid, CoapToken}
+use Rattle.schc_ids.specs.declared.names.FieldName.TheVariants.{CoapOption}
 pub use Rattle.rule_model.specs.Presence.{at_name}
 use Rattle.rule_model.specs.declared.value.FieldValue.{FieldValue}
 use Rattle.coap_fields.specs.Message.{OptionData, Message, next_place, IsMessage, spelled}
@@ -17,7 +19,8 @@ token_fields (byte ∷ token) = field CoapToken (octets (byte ∷ token)) ∷ []
 
 -- an option as a field: its position counts the options of its number from 1
 abbrev pub option_field : ℕ → ℕ → List ℕ → FieldValue
-option_field number position value = record { at = record { name = CoapOption number; position = position }; value = octets value }
+option_field number position value =
+    record { at = record { name = CoapOption number; position = position }; value = octets value }
 
 -- options after one of this number and place, as fields
 unfoldable pub option_fields : ℕ → ℕ → List OptionData → List FieldValue
@@ -39,9 +42,11 @@ header_fields kind tkl code id =
 -- the fields of a message, in packet order
 unfoldable pub fields_of_message : Message → List FieldValue
 fields_of_message m =
-    header_fields m.kind (length m.token) m.code m.id ++ (token_fields m.token ++ option_fields 0 0 m.options)
+    header_fields m.kind (length m.token) m.code
+    m.id ++ (token_fields m.token ++ option_fields 0 0 m.options)
 
--- the bytes spell a message, these are its fields, and its payload begins at this byte, which is the end where there is none
+-- the bytes spell a message, these are its fields, and its payload begins at this byte, which is
+-- the end where there is none
 pub record MessageOf (bytes : List ℕ) (fields : List FieldValue) (payload_from : ℕ) : Type 0 where
   pub message : Message
   pub is_message : IsMessage message

@@ -1,8 +1,11 @@
 -- Why fields make no CoAP message, and the message that they make.
-use Rattle.std.specs.Prelude.{ℕ, ◌*◌, ◌%◌, ◌==◌, Bool, true, false, not, ◌&&◌, ◌||◌, List, [], ◌∷◌, ◌++◌, length, nat_lt, nat_le, Option, is_none, is_some}
+use Rattle.std.specs.Prelude.{ℕ, ◌*◌, ◌%◌, ◌==◌, Bool, true, false, not, ◌&&◌, ◌||◌, List, [], ◌∷◌}
+use Rattle.std.specs.Prelude.{◌++◌, length, nat_lt, nat_le, Option, is_none, is_some}
 use Rattle.schc_bits.specs.Bits.{bits_value, bytes_of}
 use Rattle.schc_ids.specs.declared.names.FieldName.{FieldName}
-use Rattle.schc_ids.specs.declared.names.FieldName.TheVariants.{CoapVersion, CoapType, CoapTkl, CoapCode, CoapMid, CoapToken, CoapOption}
+use Rattle.schc_ids.specs.declared.names.FieldName.TheVariants.{CoapVersion, CoapType, CoapTkl}
+use Rattle.schc_ids.specs.declared.names.FieldName.TheVariants.{CoapCode, CoapMid, CoapToken}
+use Rattle.schc_ids.specs.declared.names.FieldName.TheVariants.{CoapOption}
 use Rattle.schc_ids.specs.declared.names.FieldAt.{FieldAt}
 use Rattle.schc_ids.specs.Names.{rank_of, coap_fields}
 use Rattle.rule_model.specs.declared.value.FieldValue.{FieldValue}
@@ -10,9 +13,11 @@ use Rattle.rule_model.specs.declared.parts.JoinFault.{JoinFault}
 use Rattle.rule_model.specs.declared.parts.JoinFault.TheVariants.{FieldAbsent, FieldWrong}
 use Rattle.rule_model.specs.First.{first_held}
 use Rattle.coap_fields.specs.Message.{OptionData, Message, next_place, spelled}
-pub use Rattle.rule_model.specs.Presence.{at_name, is_at, value_in, value_of, bits_of, presence_of, presence}
+pub use Rattle.rule_model.specs.Presence.{at_name, is_at, value_in, value_of, bits_of, presence_of}
+pub use Rattle.rule_model.specs.Presence.{presence}
 
--- a message can have the field: an option at a position from 1 to 65,535, another field of CoAP at position 1
+-- a message can have the field: an option at a position from 1 to 65,535, another field of CoAP at
+-- position 1
 abbrev pub is_possible : FieldName → ℕ → Bool
 is_possible CoapVersion position = position == 1
 is_possible CoapType position = position == 1
@@ -20,7 +25,8 @@ is_possible CoapTkl position = position == 1
 is_possible CoapCode position = position == 1
 is_possible CoapMid position = position == 1
 is_possible CoapToken position = position == 1
-is_possible (CoapOption number) position = nat_le number 65535 && nat_le 1 position && nat_le position 65535
+is_possible (CoapOption number) position =
+    nat_le number 65535 && nat_le 1 position && nat_le position 65535
 is_possible _ position = false
 
 -- the field stands, in packet order, after one of this rank and position
@@ -30,20 +36,24 @@ stands_after rank position at =
 
 -- an option's value is whole bytes, at most 269 + 65,535 of them
 abbrev pub is_size_right : FieldName → List Bool → Bool
-is_size_right (CoapOption number) value = (length value % 8 == 0) && nat_le (length value) (8 * 65804)
+is_size_right (CoapOption number) value =
+    (length value % 8 == 0) && nat_le (length value) (8 * 65804)
 is_size_right _ value = true
 
 -- the field can stand after one of this rank and position
 abbrev pub can_follow : ℕ → ℕ → FieldValue → Bool
 can_follow rank position f =
-    is_possible f.at.name f.at.position && stands_after rank position f.at && is_size_right f.at.name f.value
+    is_possible f.at.name f.at.position && stands_after rank position f.at && is_size_right
+    f.at.name f.value
 
--- each field of the list, in the list's order: a message can have it, it stands after the field before it, and has a right
+-- each field of the list, in the list's order: a message can have it, it stands after the field
+-- before it, and has a right
 -- size where it is an option
 abbrev pub order : ℕ → ℕ → List FieldValue → List (Bool × JoinFault)
 order rank position [] = []
 order rank position (f ∷ fields) =
-    (not (can_follow rank position f), FieldWrong f.at) ∷ order (rank_of f.at.name) f.at.position fields
+    (not (can_follow rank position f), FieldWrong f.at) ∷ order (rank_of f.at.name) f.at.position
+    fields
 
 -- the length of the token that the fields say
 abbrev pub tkl_of : List FieldValue → ℕ
@@ -51,10 +61,17 @@ tkl_of fields = bits_value (value_of fields CoapTkl)
 
 -- the token is there exactly where its length is above 0, and has 8 times as many bits
 abbrev pub token_refusals : List FieldValue → List (Bool × JoinFault)
-token_refusals fields =
-    (nat_lt 0 (tkl_of fields) && is_none (value_in fields CoapToken), FieldAbsent (at_name CoapToken))
+token_refusals fields = (
+  nat_lt 0 (tkl_of fields) && is_none (value_in fields CoapToken),
+  FieldAbsent
+      (at_name CoapToken),
+)
     ∷ ((tkl_of fields == 0) && is_some (value_in fields CoapToken), FieldWrong (at_name CoapToken))
-    ∷ (not (length (value_of fields CoapToken) == 8 * tkl_of fields), FieldWrong (at_name CoapToken))
+    ∷ (
+      not (length (value_of fields CoapToken) == 8 * tkl_of fields),
+      FieldWrong
+          (at_name CoapToken),
+    )
     ∷ []
 
 -- what the values have to be: the version is 1, and the token at most 8 bytes long
@@ -64,7 +81,8 @@ value_refusals fields =
     ∷ (nat_lt 8 (tkl_of fields), FieldWrong (at_name CoapTkl))
     ∷ token_refusals fields
 
--- the field, where it is an option, leaves no gap after one of this number and position: else the next position lacks
+-- the field, where it is an option, leaves no gap after one of this number and position: else the
+-- next position lacks
 abbrev pub gap : ℕ → ℕ → FieldName → ℕ → List (Bool × JoinFault)
 gap before position (CoapOption number) its = (
   nat_lt (next_place before position number) its,
@@ -98,22 +116,27 @@ is_whole _ value = true
 -- the field can stand after one of this rank and position, whatever its size
 abbrev pub can_stand : ℕ → ℕ → FieldValue → Bool
 can_stand rank position f =
-    is_possible f.at.name f.at.position && stands_after rank position f.at && is_whole f.at.name f.value
+    is_possible f.at.name f.at.position && stands_after rank position f.at && is_whole f.at.name
+    f.value
 
 -- each field of the list, in the list's order, can stand after the field before it
 abbrev pub standing : ℕ → ℕ → List FieldValue → List (Bool × JoinFault)
 standing rank position [] = []
 standing rank position (f ∷ fields) =
-    (not (can_stand rank position f), FieldWrong f.at) ∷ standing (rank_of f.at.name) f.at.position fields
+    (not (can_stand rank position f), FieldWrong f.at) ∷ standing (rank_of f.at.name) f.at.position
+    fields
 
--- in their order, the conditions under which the fields make no message, but for the size of an option
+-- in their order, the conditions under which the fields make no message, but for the size of an
+-- option
 abbrev pub message_refusals : List FieldValue → List (Bool × JoinFault)
 message_refusals fields =
-    presence fields coap_fields ++ (standing 0 0 fields ++ (value_refusals fields ++ gaps 0 0 fields))
+    presence fields
+    coap_fields ++ (standing 0 0 fields ++ (value_refusals fields ++ gaps 0 0 fields))
 
 -- in their order, the conditions under which the fields make no message
 abbrev pub join_refusals : List FieldValue → List (Bool × JoinFault)
-join_refusals fields = presence fields coap_fields ++ (order 0 0 fields ++ (value_refusals fields ++ gaps 0 0 fields))
+join_refusals fields =
+    presence fields coap_fields ++ (order 0 0 fields ++ (value_refusals fields ++ gaps 0 0 fields))
 
 -- the first condition that holds; none where they make one
 unfoldable pub join_refusal : List FieldValue → Option JoinFault
@@ -121,7 +144,8 @@ join_refusal fields = first_held (join_refusals fields)
 
 -- a field as an option, in front of others
 abbrev pub option_from : FieldName → List Bool → List OptionData → List OptionData
-option_from (CoapOption number) value options = record { number = number; value = bytes_of value } ∷ options
+option_from (CoapOption number) value options =
+    record { number = number; value = bytes_of value } ∷ options
 option_from _ value options = options
 
 -- the options among the fields

@@ -12,7 +12,8 @@ use Rattle.coap_fields.specs.Join.{join_refusal, message_from}
 
 -- messages with one spelling are one
 abbrev pub IsSpelledOnce : Type 0
-IsSpelledOnce = (this that : Message) → IsMessage this → IsMessage that → spelled this ≡ spelled that → this ≡ that
+IsSpelledOnce = (this that : Message) → IsMessage this → IsMessage that
+    → spelled this ≡ spelled that → this ≡ that
 
 -- a message is read from bytes exactly where they spell it
 abbrev pub ReadsExactly : Type 0
@@ -29,7 +30,8 @@ HasOneSplit =
 -- what a message was split into isn't refused
 abbrev pub JoinsAgain : Type 0
 JoinsAgain =
-    (bytes : List ℕ) (fields : List FieldValue) (from : ℕ) → MessageOf bytes fields from → join_refusal fields ≡ None
+    (bytes : List ℕ) (fields : List FieldValue) (from : ℕ) → MessageOf bytes fields from
+    → join_refusal fields ≡ None
 
 -- and makes the same bytes
 abbrev pub MakesAgain : Type 0
@@ -45,11 +47,13 @@ HaveOnePacket =
 
 -- what holds of the fields of each message
 abbrev pub HasCoapFields : Type 0
-HasCoapFields = (bytes : List ℕ) (fields : List FieldValue) (from : ℕ) → MessageOf bytes fields from → AreCoapFields fields
+HasCoapFields = (bytes : List ℕ) (fields : List FieldValue) (from : ℕ) → MessageOf bytes fields from
+    → AreCoapFields fields
 
 -- no message is read, for this place, exactly where the bytes stop to be one there
 abbrev pub StopsExactly : Type 0
-StopsExactly = (bytes : List ℕ) (stop : ℕ) → AreBytes bytes → (message_in bytes ≡ Err stop) ↔ StopsAt bytes stop
+StopsExactly = (bytes : List ℕ) (stop : ℕ) → AreBytes bytes
+    → (message_in bytes ≡ Err stop) ↔ StopsAt bytes stop
 
 -- the place is at most the number of the bytes
 abbrev pub StopsWithin : Type 0

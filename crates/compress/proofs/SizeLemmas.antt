@@ -11,8 +11,23 @@ length-short size h = rw (size_code-short size h, length-number_bits 4 size)
 
 pub length-byte : (size : ℕ) → 15 ≤ size → size < 255 → 12 ≡ length (size_code size)
 length-byte size h k =
-    rw (size_code-byte size h k, length-append (number_bits 4 15) (number_bits 8 size), length-number_bits 4 15, length-number_bits 8 size)
+    rw (
+      size_code-byte size h k,
+      length-append (number_bits 4 15) (number_bits 8 size),
+      length-number_bits 4 15,
+      length-number_bits 8 size,
+    )
 
 pub length-long : (size : ℕ) → 255 ≤ size → 28 ≡ length (size_code size)
 length-long size h =
-    rw (size_code-long size h, length-append (number_bits 4 15) (number_bits 8 255 ++ number_bits 16 size), length-append (number_bits 8 255) (number_bits 16 size), length-number_bits 4 15, length-number_bits 8 255, length-number_bits 16 size)
+    rw (
+      size_code-long size h,
+      length-append (number_bits 4 15)
+          (number_bits 8 255 ++ number_bits 16 size),
+      length-append (number_bits 8 255)
+          (number_bits 16 size),
+      length-number_bits 4 15,
+      length-number_bits 8 255,
+      length-number_bits
+          16 size,
+    )

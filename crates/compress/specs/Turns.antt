@@ -15,16 +15,19 @@ turn_residue direction fields e =
 -- what is sent of the entries
 abbrev pub joined : Direction → List FieldValue → List EntryData → List Bool
 joined direction fields [] = []
-joined direction fields (e ∷ entries) = turn_residue direction fields e ++ joined direction fields entries
+joined direction fields (e ∷ entries) =
+    turn_residue direction fields e ++ joined direction fields entries
 
 -- what is sent with its size has one
 abbrev pub TurnHolds : Direction → List FieldValue → EntryData → Type 0
 TurnHolds direction fields e =
-    covers e.direction direction ≡ true → SizeHolds e.length e.action e.operator (value_of fields (field_of e))
+    covers e.direction direction ≡ true
+    → SizeHolds e.length e.action e.operator (value_of fields (field_of e))
 
 abbrev pub TurnsHold : Direction → List FieldValue → List EntryData → Type 0
 TurnsHold direction fields [] = Unit {0}
-TurnsHold direction fields (e ∷ entries) = TurnHolds direction fields e × TurnsHold direction fields entries
+TurnsHold direction fields (e ∷ entries) = TurnHolds direction fields e
+    × TurnsHold direction fields entries
 
 -- the first bits are the old ones
 abbrev pub KeepsFront : List Bool → List Bool → Type 0

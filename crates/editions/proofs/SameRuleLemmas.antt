@@ -1,5 +1,6 @@
 -- The test whether two rules are one holds exactly where they are.
-use Rattle.std.proofs.Common.{◌≡◌, ℕ, ◌==◌, ◌&&◌, Bool, true, false, List, [], ◌∷◌, refl, ap, subst, eqb-true, eq-eqb}
+use Rattle.std.proofs.Common.{◌≡◌, ℕ, ◌==◌, ◌&&◌, Bool, true, false, List, [], ◌∷◌, refl, ap, subst}
+use Rattle.std.proofs.Common.{eqb-true, eq-eqb}
 use Rattle.std.specs.Bool.{Decides}
 use Rattle.std.specs.Cmp.Lexicographic.{pointwise}
 use Rattle.std.proofs.lemmas.Bool.{false≢true}
@@ -15,13 +16,16 @@ use Rattle.rule_model.specs.declared.rule.Length.TheVariants.{Fixed, Variable, T
 use Rattle.rule_model.specs.declared.rule.Operator.{Operator}
 use Rattle.rule_model.specs.declared.rule.Operator.TheVariants.{Equal, Ignore, Msb, MatchMapping}
 use Rattle.rule_model.specs.declared.rule.Action.{Action}
-use Rattle.rule_model.specs.declared.rule.Action.TheVariants.{NotSent, ValueSent, MappingSent, Lsb, Compute, DevIid, AppIid}
+use Rattle.rule_model.specs.declared.rule.Action.TheVariants.{NotSent, ValueSent, MappingSent, Lsb}
+use Rattle.rule_model.specs.declared.rule.Action.TheVariants.{Compute, DevIid, AppIid}
 use Rattle.rule_model.specs.Data.{EntryData, RuleData}
 use Rattle.rule_model.specs.Findings.{same_bits}
-use Rattle.editions.specs.SameRules.{same_length, same_indicator, same_operator, same_action, same_entry, same_rule}
+use Rattle.editions.specs.SameRules.{same_length, same_indicator, same_operator, same_action}
+use Rattle.editions.specs.SameRules.{same_entry, same_rule}
 
 -- a test that holds of each value with itself, and of no two others, decides equality
-decides : {A : Type 0} (test : A → A → Bool) → ((a b : A) → test a b ≡ true → a ≡ b) → ((a : A) → test a a ≡ true) → (a b : A) → Decides (test a b) (a ≡ b)
+decides : {A : Type 0} (test : A → A → Bool) → ((a b : A) → test a b ≡ true → a ≡ b)
+    → ((a : A) → test a a ≡ true) → (a b : A) → Decides (test a b) (a ≡ b)
 decides test sound itself a b = (sound a b, λ e. subst (λ c. test a c ≡ true) e (itself a))
 
 same_bits-true : (a b : List Bool) → same_bits a b ≡ true → a ≡ b
@@ -92,7 +96,9 @@ same_action-itself AppIid = refl
 -- the members of two entries are equal
 abbrev SameMembers : EntryData → EntryData → Type 0
 SameMembers a b =
-    ((((((a.name ≡ b.name) × (a.length ≡ b.length)) × (a.position ≡ b.position)) × (a.direction ≡ b.direction)) × (a.targets ≡ b.targets)) × (a.operator ≡ b.operator)) × (a.action ≡ b.action)
+    ((((((a.name ≡ b.name) × (a.length ≡ b.length)) × (a.position ≡ b.position))
+    × (a.direction ≡ b.direction)) × (a.targets ≡ b.targets)) × (a.operator ≡ b.operator))
+    × (a.action ≡ b.action)
 
 same_entry-members : (a b : EntryData) → Decides (same_entry a b) (SameMembers a b)
 unfolding same_entry
@@ -102,36 +108,56 @@ same_entry-members a b =
     (Decides-and _ _
     (Decides-and _ _
     (Decides-and _ _
-    (Decides-and _ _ (decides same_name same_name-true same_name-itself a.name b.name) (decides same_length same_length-true same_length-itself a.length b.length))
+    (Decides-and _ _ (decides same_name same_name-true same_name-itself a.name b.name)
+    (decides same_length same_length-true same_length-itself a.length b.length))
     (Decides-eqb a.position b.position))
     (decides same_indicator same_indicator-true same_indicator-itself a.direction b.direction))
-    (slice_eq-Decides (decides same_bits same_bits-true same_bits-itself) a.targets b.targets (pointwise same_bits a.targets b.targets) refl))
+    (slice_eq-Decides (decides same_bits same_bits-true same_bits-itself) a.targets b.targets
+    (pointwise same_bits a.targets b.targets) refl))
     (decides same_operator same_operator-true same_operator-itself a.operator b.operator))
     (decides same_action same_action-true same_action-itself a.action b.action)
 
 abbrev entry_of : FieldName → Length → ℕ → DirInd → List (List Bool) → Operator → Action → EntryData
 entry_of n l p d t o a =
-    record { name = n; length = l; position = p; direction = d; targets = t; operator = o; action = a }
+    record {
+      name = n;
+      length = l;
+      position = p;
+      direction = d;
+      targets = t;
+      operator = o;
+      action =
+          a;
+    }
 
 -- entries with equal members are equal
-entry-equal : (n n' : FieldName) (l l' : Length) (p p' : ℕ) (d d' : DirInd) (t t' : List (List Bool)) (o o' : Operator) (a a' : Action) → n ≡ n' → l ≡ l' → p ≡ p' → d ≡ d' → t ≡ t' → o ≡ o' → a ≡ a' → entry_of n l p d t o a ≡ entry_of n' l' p' d' t' o' a'
+entry-equal : (n n' : FieldName) (l l' : Length) (p p' : ℕ) (d d' : DirInd)
+    (t t' : List (List Bool)) (o o' : Operator) (a a' : Action) → n ≡ n' → l ≡ l' → p ≡ p' → d ≡ d'
+    → t ≡ t' → o ≡ o' → a ≡ a' → entry_of n l p d t o a ≡ entry_of n' l' p' d' t' o' a'
 entry-equal n n' l l' p p' d d' t t' o o' a a' e0 e1 e2 e3 e4 e5 e6 = cc
 
 same_entry-Decides : (a b : EntryData) → Decides (same_entry a b) (a ≡ b)
 same_entry-Decides a b =
     Decides-like (same_entry a b)
-    (λ m. entry-equal a.name b.name a.length b.length a.position b.position a.direction b.direction a.targets b.targets a.operator b.operator a.action b.action m.0.0.0.0.0.0 m.0.0.0.0.0.1 m.0.0.0.0.1 m.0.0.0.1 m.0.0.1 m.0.1 m.1)
+    (λ m. entry-equal a.name b.name a.length b.length a.position b.position a.direction b.direction
+    a.targets b.targets a.operator b.operator a.action b.action m.0.0.0.0.0.0 m.0.0.0.0.0.1
+    m.0.0.0.0.1 m.0.0.0.1 m.0.0.1 m.0.1 m.1)
     (λ e. rw e ((((((refl, refl), refl), refl), refl), refl), refl)) (same_entry-members a b)
 
 abbrev rule_of : ℕ → List EntryData → RuleData
 rule_of id entries = record { id = id; entries = entries }
 
-rule-equal : (i i' : ℕ) (es es' : List EntryData) → i ≡ i' → es ≡ es' → rule_of i es ≡ rule_of i' es'
+rule-equal : (i i' : ℕ) (es es' : List EntryData) → i ≡ i' → es ≡ es'
+    → rule_of i es ≡ rule_of i' es'
 rule-equal i i' es es' e0 e1 = cc
 
 -- the test holds exactly of one rule
 pub same_rule-Decides : (a b : RuleData) → Decides (same_rule a b) (a ≡ b)
 unfolding same_rule
 same_rule-Decides a b =
-    Decides-like ((a.id == b.id) && pointwise same_entry a.entries b.entries) (λ (m : (a.id ≡ b.id) × (a.entries ≡ b.entries)). rule-equal a.id b.id a.entries b.entries m.0 m.1) (λ e. rw e (refl, refl))
-    (Decides-and _ _ (Decides-eqb a.id b.id) (slice_eq-Decides same_entry-Decides a.entries b.entries (pointwise same_entry a.entries b.entries) refl))
+    Decides-like ((a.id == b.id) && pointwise same_entry a.entries b.entries)
+    (λ (m : (a.id ≡ b.id) × (a.entries ≡ b.entries)). rule-equal a.id b.id a.entries b.entries
+    m.0 m.1) (λ e. rw e (refl, refl))
+    (Decides-and _ _ (Decides-eqb a.id b.id)
+    (slice_eq-Decides same_entry-Decides a.entries b.entries
+    (pointwise same_entry a.entries b.entries) refl))

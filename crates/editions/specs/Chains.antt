@@ -22,8 +22,11 @@ pub record IsEdition (edition : EditionData) : Type 0 where
   pub ascending : IsAscending edition.rules
   pub ends_chain : EndsChain edition
 
--- In one chain, of any two editions the later one has each RuleID of the earlier one with the same rule, and has it
+-- In one chain, of any two editions the later one has each RuleID of the earlier one with the same
+-- rule, and has it
 -- retired where the earlier one has.
 abbrev pub OneMeaning : Type 0
 OneMeaning =
-    (chain : List EditionData) → IsChain chain → (i j : ℕ) (earlier later : EditionData) → i ≤ j → slice_get chain i ≡ Some earlier → slice_get chain j ≡ Some later → KeepsMeanings earlier.rules later.rules × KeepsRetired earlier.rules later.rules
+    (chain : List EditionData) → IsChain chain → (i j : ℕ) (earlier later : EditionData) → i ≤ j
+    → slice_get chain i ≡ Some earlier → slice_get chain j ≡ Some later
+    → KeepsMeanings earlier.rules later.rules × KeepsRetired earlier.rules later.rules

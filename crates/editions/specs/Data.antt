@@ -1,4 +1,5 @@
--- An edition of the rules as contracts see it: a context (the set of rules of RFC 8724, section 7.1) with a number.
+-- An edition of the rules as contracts see it: a context (the set of rules of RFC 8724, section
+-- 7.1) with a number.
 use Rattle.std.specs.Prelude.{ℕ, ◌==◌, ◌<◌, ◌≤◌, List, [], Option, All, find, count_by, AllPairs}
 use Rattle.rule_model.specs.Findings.{IsAdmitted}
 use Rattle.editions.specs.declared.listed.Listed.{Listed}
@@ -28,7 +29,8 @@ NoIdTwice rules = (id : ℕ) → count_by (λ listed. listed.rule.id == id) rule
 abbrev pub AreAdmitted : List Listed → Type 0
 AreAdmitted rules = All (λ listed. IsAdmitted listed.rule) rules
 
--- what holds of the rules of each edition: they are admitted, and stand in ascending order of RuleID
+-- what holds of the rules of each edition: they are admitted, and stand in ascending order of
+-- RuleID
 pub record IsSound (edition : EditionData) : Type 0 where
   pub admitted : AreAdmitted edition.rules
   pub ascending : IsAscending edition.rules

@@ -19,7 +19,8 @@ IsFaultOf old number rules Memory = Unit {0}
 
 -- where there is a finding, no edition that is made of the rules follows
 abbrev pub IsRightRefusal : EditionData → ℕ → List Listed → FollowFault → Type 0
-IsRightRefusal old number rules (Found finding) = (new : EditionData) → IsMadeOf number rules new → ¬ Follows old new
+IsRightRefusal old number rules (Found finding) = (new : EditionData) → IsMadeOf number rules new
+    → ¬ Follows old new
 IsRightRefusal old number rules Memory = Unit {0}
 
 -- a finding is the answer's, and want of memory may come at any answer

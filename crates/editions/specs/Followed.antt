@@ -1,5 +1,6 @@
 -- The edition that comes next, as a function of the old one and of what is handed in.
-use Rattle.std.specs.Prelude.{ℕ, ◌≡◌, ◌↔◌, ◌+◌, ◌==◌, Bool, ◌&&◌, not, nat_le, if◌then◌else◌, List, [], ◌∷◌, ◌++◌, length, Option, Some, None, is_some, Result, Ok, Err}
+use Rattle.std.specs.Prelude.{ℕ, ◌≡◌, ◌↔◌, ◌+◌, ◌==◌, Bool, ◌&&◌, not, nat_le, if◌then◌else◌, List}
+use Rattle.std.specs.Prelude.{[], ◌∷◌, ◌++◌, length, Option, Some, None, is_some, Result, Ok, Err}
 use Rattle.std.specs.List.{list_all}
 use Rattle.std.specs.Option.{option_map}
 use Rattle.std.specs.List.Sorted.{IsPermutation}
@@ -17,7 +18,8 @@ use Rattle.editions.specs.SameRules.{same_rule}
 -- the number, the rules, their entries and their targets are within the limits
 unfoldable pub is_within_limits : ℕ → List Listed → Bool
 is_within_limits number rules =
-    nat_le number 256 && nat_le (length rules) 200 && list_all (λ listed. nat_le (length listed.rule.entries) 64) rules
+    nat_le number 256 && nat_le (length rules) 200 && list_all
+    (λ listed. nat_le (length listed.rule.entries) 64) rules
     && nat_le (target_octets rules) 262144
 
 -- the first RuleID of the later rules that repeats one before it
@@ -31,7 +33,8 @@ repeat_after earlier (listed ∷ later) =
 abbrev pub first_repeat : List Listed → Option ℕ
 first_repeat rules = repeat_after [] rules
 
--- what is lost of a RuleID, from what was listed under it and what is: id-gone, meaning-changed, revived
+-- what is lost of a RuleID, from what was listed under it and what is: id-gone, meaning-changed,
+-- revived
 abbrev pub loss_of : Listed → Option Listed → Option Loss
 loss_of was None = Some IdGone
 loss_of was (Some now) =
@@ -44,10 +47,12 @@ abbrev pub lost_first : ℕ → Option Loss → Option LostId → Option LostId
 lost_first id (Some loss) later = Some (record { id = id; loss = loss })
 lost_first id None later = later
 
--- the first RuleID of the old rules, which stand in ascending order, of which there is a loss, with its loss
+-- the first RuleID of the old rules, which stand in ascending order, of which there is a loss, with
+-- its loss
 abbrev pub lowest_loss : List Listed → List Listed → Option LostId
 lowest_loss [] new = None
-lowest_loss (was ∷ old) new = lost_first was.rule.id (loss_of was (lookup new was.rule.id)) (lowest_loss old new)
+lowest_loss (was ∷ old) new =
+    lost_first was.rule.id (loss_of was (lookup new was.rule.id)) (lowest_loss old new)
 
 -- the lowest RuleID of which there is a loss
 unfoldable pub diverged : List Listed → List Listed → Option ℕ
@@ -70,7 +75,8 @@ first_finding old number rules =
 abbrev pub insert_by_id : Listed → List Listed → List Listed
 insert_by_id listed [] = listed ∷ []
 insert_by_id listed (first ∷ rules) =
-    if nat_le listed.rule.id first.rule.id then listed ∷ first ∷ rules else first ∷ insert_by_id listed rules
+    if nat_le listed.rule.id first.rule.id then listed ∷ first ∷ rules else first ∷ insert_by_id
+    listed rules
 
 -- the rules in ascending order of RuleID
 abbrev pub by_id : List Listed → List Listed
@@ -83,14 +89,16 @@ IsInOrder rules sorted = IsPermutation rules sorted × IsAscending sorted
 
 -- where no RuleID stands twice, that is the one list of the rules in strict ascending order
 abbrev pub OneOrder : Type 0
-OneOrder = (rules sorted : List Listed) → NoIdTwice rules → IsInOrder rules sorted ↔ (sorted ≡ by_id rules)
+OneOrder = (rules sorted : List Listed) → NoIdTwice rules
+    → IsInOrder rules sorted ↔ (sorted ≡ by_id rules)
 
 -- the edition, where there is no finding
 abbrev pub unless_found : Option Finding → EditionData → Result EditionData Finding
 unless_found None edition = Ok edition
 unless_found (Some finding) edition = Err finding
 
--- the edition with this number and these rules, or the first finding that keeps it from following the old one
+-- the edition with this number and these rules, or the first finding that keeps it from following
+-- the old one
 unfoldable pub followed : EditionData → ℕ → List Listed → Result EditionData Finding
 followed old number rules =
     unless_found (first_finding old number rules) (record { number = number; rules = by_id rules })

@@ -1,5 +1,6 @@
 -- What is kept of a rule, to find it by the value of its key field.
-use Rattle.std.specs.Prelude.{ℕ, ◌==◌, Bool, true, false, ◌&&◌, if◌then◌else◌, List, Option, Some, None, filter, map, slice_get}
+use Rattle.std.specs.Prelude.{ℕ, ◌==◌, Bool, true, false, ◌&&◌, if◌then◌else◌, List, Option, Some}
+use Rattle.std.specs.Prelude.{None, filter, map, slice_get}
 use Rattle.std.specs.List.{filter_map}
 use Rattle.std.specs.Option.{option_map}
 use Rattle.schc_bits.specs.Bits.{bits_value}
@@ -17,12 +18,14 @@ use Rattle.editions.specs.Suspects.{same_stack, key_entry}
 
 -- the keys that an entry takes
 abbrev pub wanted_of : Operator → List (List Bool) → Option Wanted
-wanted_of operator.Equal targets = option_map (λ target. Only (bits_value target)) (slice_get targets 0)
+wanted_of operator.Equal targets =
+    option_map (λ target. Only (bits_value target)) (slice_get targets 0)
 wanted_of _ targets = Some Any
 
 abbrev pub candidate_by : ℕ → Option EntryData → Option Candidate
 candidate_by id None = None
-candidate_by id (Some e) = option_map (λ wanted. record { id = id; wanted = wanted }) (wanted_of e.operator e.targets)
+candidate_by id (Some e) =
+    option_map (λ wanted. record { id = id; wanted = wanted }) (wanted_of e.operator e.targets)
 
 -- a rule of the stack that is written with in the direction, and the keys that it takes
 unfoldable pub candidate_of : Direction → Stack → Listed → Option Candidate

@@ -1,5 +1,6 @@
 -- What the next edition may do to the rules of an edition, and what it may not.
-use Rattle.std.specs.Prelude.{ℕ, ◌≡◌, ◌≢◌, ◌<◌, ◌⊎◌, true, false, List, Option, None, IfSome, IsSomeAnd}
+use Rattle.std.specs.Prelude.{ℕ, ◌≡◌, ◌≢◌, ◌<◌, ◌⊎◌, true, false, List, Option, None, IfSome}
+use Rattle.std.specs.Prelude.{IsSomeAnd}
 use Rattle.editions.specs.declared.listed.Listed.{Listed}
 use Rattle.editions.specs.declared.losses.Loss.{Loss}
 use Rattle.rule_model.specs.declared.finding.FindingKind.{FindingKind}
@@ -7,7 +8,8 @@ use Rattle.rule_model.specs.declared.finding.FindingKind.TheVariants as kind
 use Rattle.editions.specs.declared.losses.Loss.TheVariants.{IdGone, MeaningChanged, Revived}
 use Rattle.editions.specs.Data.{lookup}
 
--- In each of these, `was` is listed under a RuleID in the one edition, and `now` is what the other lists under it.
+-- In each of these, `was` is listed under a RuleID in the one edition, and `now` is what the other
+-- lists under it.
 
 -- the RuleID keeps its meaning
 abbrev pub HasSameRule : Listed → Option Listed → Type 0
@@ -41,9 +43,12 @@ kind_of_loss IdGone = kind.IdGone
 kind_of_loss MeaningChanged = kind.MeaningChanged
 kind_of_loss Revived = kind.Revived
 
--- the RuleID isn't listed in the one, or the other has its rule, and has it retired where the one has
+-- the RuleID isn't listed in the one, or the other has its rule, and has it retired where the one
+-- has
 abbrev pub KeepsId : List Listed → List Listed → ℕ → Type 0
-KeepsId old new id = IfSome (lookup old id) (λ was. HasSameRule was (lookup new id) × StaysRetired was (lookup new id))
+KeepsId old new id =
+    IfSome (lookup old id)
+    (λ was. HasSameRule was (lookup new id) × StaysRetired was (lookup new id))
 
 -- the RuleID is listed in the one, and the other has this loss of it
 abbrev pub LosesId : List Listed → List Listed → ℕ → Loss → Type 0
@@ -51,10 +56,14 @@ LosesId old new id loss = IsSomeAnd (lookup old id) (λ was. IsFirstLoss was (lo
 
 -- the lowest RuleID of which there is a loss, with its loss
 abbrev pub IsLowestLoss : List Listed → List Listed → ℕ → Loss → Type 0
-IsLowestLoss old new id loss = LosesId old new id loss × ((lower : ℕ) → lower < id → KeepsId old new lower)
+IsLowestLoss old new id loss = LosesId old new id loss
+    × ((lower : ℕ) → lower < id → KeepsId old new lower)
 
--- the RuleID is listed in the one, and the other lacks it, lists it with another rule, or lists it as live where it is
+-- the RuleID is listed in the one, and the other lacks it, lists it with another rule, or lists it
+-- as live where it is
 -- retired in the one
 abbrev pub DivergesAt : List Listed → List Listed → ℕ → Type 0
 DivergesAt these those id =
-    IsSomeAnd (lookup these id) (λ was. IsGone (lookup those id) ⊎ HasOtherRule was (lookup those id) ⊎ IsRevived was (lookup those id))
+    IsSomeAnd (lookup these id)
+    (λ was. IsGone (lookup those id) ⊎ HasOtherRule was (lookup those id)
+    ⊎ IsRevived was (lookup those id))

@@ -9,7 +9,8 @@ use Rattle.rule_model.specs.declared.rule.Length.TheVariants.{Fixed, Variable, T
 use Rattle.rule_model.specs.declared.rule.Operator.{Operator}
 use Rattle.rule_model.specs.declared.rule.Operator.TheVariants.{Equal, Ignore, Msb, MatchMapping}
 use Rattle.rule_model.specs.declared.rule.Action.{Action}
-use Rattle.rule_model.specs.declared.rule.Action.TheVariants.{NotSent, ValueSent, MappingSent, Lsb, Compute, DevIid, AppIid}
+use Rattle.rule_model.specs.declared.rule.Action.TheVariants.{NotSent, ValueSent, MappingSent, Lsb}
+use Rattle.rule_model.specs.declared.rule.Action.TheVariants.{Compute, DevIid, AppIid}
 use Rattle.rule_model.specs.Data.{EntryData, RuleData}
 use Rattle.rule_model.specs.Findings.{same_bits}
 

@@ -33,9 +33,11 @@ table_of index way.Down headers = table_of_stack index.down headers
 -- the tables have the suspects of these rules
 abbrev pub IsIndexOf : List Listed → Index → Type 0
 IsIndexOf rules index =
-    (direction : Direction) (headers : Stack) (key : ℕ) → ids_in (table_of index direction headers) key ≡ suspects rules direction headers key
+    (direction : Direction) (headers : Stack) (key : ℕ)
+    → ids_in (table_of index direction headers) key ≡ suspects rules direction headers key
 
--- what an edition of the program keeps: it is the last one of a chain, its rules are admitted, and the tables have their
+-- what an edition of the program keeps: it is the last one of a chain, its rules are admitted, and
+-- the tables have their
 -- suspects
 pub record KeepsEdition (edition : EditionData) (index : Index) : Type 0 where
   pub is_edition : IsEdition edition

@@ -9,8 +9,10 @@ use Rattle.editions.specs.Data.{EditionData}
 use Rattle.packer.specs.declared.packing.Packed.{Packed}
 use Rattle.sessions.specs.Data.{SessionsData}
 
--- an end has its role and its parameters, the edition of rules that it knows and reads with, the edition that it writes
--- with, the packets that wait, each as it was written when it was handed down, the first of which is sent next, and what it
+-- an end has its role and its parameters, the edition of rules that it knows and reads with, the
+-- edition that it writes
+-- with, the packets that wait, each as it was written when it was handed down, the first of which
+-- is sent next, and what it
 -- sends and receives in fragments
 pub record EndData : Type 0 where
   pub role : Role
@@ -24,7 +26,8 @@ pub record EndData : Type 0 where
 abbrev pub after_id : List Bool → List Bool
 after_id bits = drop 8 bits
 
--- the bytes of a frame that carries the SCHC packet whole: the RuleID goes by the port (RFC 9011, section 5.1), and the
+-- the bytes of a frame that carries the SCHC packet whole: the RuleID goes by the port (RFC 9011,
+-- section 5.1), and the
 -- other bits in whole bytes (RFC 8724, section 9)
 abbrev pub frame_size : List Bool → ℕ
 frame_size bits = (length (after_id bits) + 7) / 8
@@ -37,7 +40,8 @@ fits mtu form = nat_le (frame_size form.bits) mtu
 abbrev pub form_room : ℕ
 form_room = 12160
 
--- a packet that can wait: its RuleID is a port, its bits begin with the RuleID, and they aren't too many for a session
+-- a packet that can wait: its RuleID is a port, its bits begin with the RuleID, and they aren't too
+-- many for a session
 pub record IsForm (form : Packed) : Type 0 where
   pub is_port : form.rule_id < 256
   pub has_id : 8 ≤ length form.bits
@@ -45,7 +49,8 @@ pub record IsForm (form : Packed) : Type 0 where
   pub is_short : length form.bits < form_room
 
 -- what each end keeps: the sessions are those of its role and with its parameters
-pub record IsEnd (role : Role) (params : EndParams) (queue : List Packed) (sessions : SessionsData) : Type 0 where
+pub record IsEnd (role : Role) (params : EndParams) (queue : List Packed)
+    (sessions : SessionsData) : Type 0 where
   pub in_range : IsParams params
   pub forms : AllByRecursion IsForm queue
   pub of_role : sessions.role ≡ role

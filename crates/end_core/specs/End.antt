@@ -1,5 +1,7 @@
 -- One end of the link: what it answers to each event, and the end that it is then.
-use Rattle.std.specs.Prelude.{ℕ, Bool, true, false, not, ◌==◌, nat_lt, nat_le, if◌then◌else◌, List, [], ◌∷◌, ◌++◌, length, drop, Option, Some, None, Result, Ok, Err, option_map, slice_get}
+use Rattle.std.specs.Prelude.{ℕ, Bool, true, false, not, ◌==◌, nat_lt, nat_le, if◌then◌else◌, List}
+use Rattle.std.specs.Prelude.{[], ◌∷◌, ◌++◌, length, drop, Option, Some, None, Result, Ok, Err}
+use Rattle.std.specs.Prelude.{option_map, slice_get}
 use Rattle.schc_bits.specs.Bits.{number_bits, octets, padded, bytes_of}
 use Rattle.schc_ids.specs.Ends.{sent_direction, taken_direction}
 use Rattle.schc_ids.specs.Limits.{max_packet, queue_room}
@@ -25,7 +27,8 @@ use Rattle.packer.specs.Unpacking.{unpacked}
 use Rattle.packer.specs.declared.packing.Packed.{Packed}
 use Rattle.lorawan_profile.specs.Ports.{meaning_of}
 use Rattle.lorawan_profile.specs.declared.ports.PortMeaning.{PortMeaning}
-use Rattle.lorawan_profile.specs.declared.ports.PortMeaning.TheVariants.{Fragments, Answers, Whole, Unknown}
+use Rattle.lorawan_profile.specs.declared.ports.PortMeaning.TheVariants.{Fragments, Answers, Whole}
+use Rattle.lorawan_profile.specs.declared.ports.PortMeaning.TheVariants.{Unknown}
 use Rattle.event_data.specs.Records.{FrameData, HandUpData}
 use Rattle.event_data.specs.declared.outcomes.Accepted.{Accepted}
 use Rattle.event_data.specs.declared.outcomes.DownFault.{DownFault}
@@ -41,7 +44,8 @@ use Rattle.sessions.specs.Steps as session
 use Rattle.sessions.specs.declared.out.SessionOut.{SessionOut}
 use Rattle.end_core.specs.Data.{EndData, after_id, fits}
 
--- a new end: it knows the empty edition 0 and writes with it, nothing waits, and no session has begun
+-- a new end: it knows the empty edition 0 and writes with it, nothing waits, and no session has
+-- begun
 abbrev pub new_end : Role → EndParams → EndData
 new_end role params = record {
   role = role;
@@ -88,7 +92,8 @@ down_step end packet = down_from end (form_of end packet) (refusal end packet)
 
 -- The end may send one frame.
 
--- the frame that carries the SCHC packet whole: its RuleID is the port, and what follows the RuleID is the payload, with the
+-- the frame that carries the SCHC packet whole: its RuleID is the port, and what follows the RuleID
+-- is the payload, with the
 -- fewest zero bits after it that make whole bytes (RFC 9011, section 5.1; RFC 8724, section 9)
 abbrev pub frame_of : Packed → FrameData
 frame_of form = record { port = form.rule_id; bytes = bytes_of (padded (after_id form.bits)) }
@@ -105,7 +110,8 @@ emitted_out out = record { frame = out.frame; kind = out.kind; report = out.repo
 abbrev pub without_first : EndData → EndData
 without_first end = record end { queue = drop 1 end.queue }
 
--- what the end does with its turn: it gives what is next of the sessions, sends the packet whole, begins a session with it, or
+-- what the end does with its turn: it gives what is next of the sessions, sends the packet whole,
+-- begins a session with it, or
 -- does nothing
 pub data Turn : Type 0 where
   Serves : Choice → Turn
@@ -113,7 +119,8 @@ pub data Turn : Type 0 where
   Begins : Packed → Turn
   Rests : Turn
 
--- what the first packet that waits makes it do: it goes whole where it fits, else as a session where one may begin
+-- what the first packet that waits makes it do: it goes whole where it fits, else as a session
+-- where one may begin
 unfoldable pub queue_turn : ℕ → Bool → Option Packed → Turn
 queue_turn mtu may_begin None = Rests
 queue_turn mtu may_begin (Some form) =
@@ -122,7 +129,8 @@ queue_turn mtu may_begin (Some form) =
 abbrev pub first_turn : EndData → Turn
 first_turn end = queue_turn end.params.mtu (session.may_begin end.sessions) (slice_get end.queue 0)
 
--- first comes a due answer, then a Sender-Abort, then the next message of a session. What waits comes after them, and where no
+-- first comes a due answer, then a Sender-Abort, then the next message of a session. What waits
+-- comes after them, and where no
 -- session is sending, waiting or closing
 unfoldable pub turn_from : EndData → Choice → Turn
 turn_from end Idle = if session.busy_in end.sessions.senders then Rests else first_turn end
@@ -160,7 +168,8 @@ read_bits end bits = unpacked end.known end.params.iids (taken_direction end.rol
 abbrev pub read : EndData → FrameData → Result UnpackedData UnpackFault
 read end frame = read_bits end (carried frame)
 
--- the assembly that the frame makes whole, which is an SCHC packet with its RuleID: there is one where the check passes
+-- the assembly that the frame makes whole, which is an SCHC packet with its RuleID: there is one
+-- where the check passes
 abbrev pub assembly_of : EndData → FrameData → Option (List Bool)
 assembly_of end frame = session.preview_of frame.port frame.bytes end.sessions
 
@@ -174,27 +183,35 @@ refused cause = record { up = None; report = None; note = note.Refused cause }
 
 -- a packet that was read with the edition of this number, as it is handed up
 abbrev pub up_of : ℕ → UnpackedData → HandUpData
-up_of number unpacked = record { edition = number; rule_id = unpacked.rule_id; packet = unpacked.packet }
+up_of number unpacked =
+    record { edition = number; rule_id = unpacked.rule_id; packet = unpacked.packet }
 
--- what the end answers to a frame that carries a whole packet, which it reads with the edition of this number
+-- what the end answers to a frame that carries a whole packet, which it reads with the edition of
+-- this number
 unfoldable pub taken_whole : ℕ → Result UnpackedData UnpackFault → Taken
-taken_whole number (Ok unpacked) = record { up = Some (up_of number unpacked); report = None; note = note.Small }
+taken_whole number (Ok unpacked) =
+    record { up = Some (up_of number unpacked); report = None; note = note.Small }
 taken_whole number (Err fault) = refused (Unpack fault)
 
--- what the end answers to a fragment or an answer that meant this to its sessions: the packet that it makes whole is handed up,
+-- what the end answers to a fragment or an answer that meant this to its sessions: the packet that
+-- it makes whole is handed up,
 -- and where that can't be read, the frame is refused
-unfoldable pub taken_part : ℕ → Note × Option Report → Option (Result UnpackedData UnpackFault) → Taken
+unfoldable pub taken_part : ℕ → Note × Option Report → Option (Result UnpackedData UnpackFault)
+    → Taken
 taken_part number said None = record { up = None; report = said.1; note = said.0 }
 taken_part number said (Some (Ok unpacked)) =
     record { up = Some (up_of number unpacked); report = said.1; note = said.0 }
-taken_part number said (Some (Err fault)) = record { up = None; report = said.1; note = note.Refused (Unpack fault) }
+taken_part number said (Some (Err fault)) =
+    record { up = None; report = said.1; note = note.Refused (Unpack fault) }
 
 -- the end after the sessions took the frame. They take it whether or not the assembly can be read
-abbrev pub takes : EndData → Option (Result UnpackedData UnpackFault) → SessionsData × (Note × Option Report) → EndData × Taken
+abbrev pub takes : EndData → Option (Result UnpackedData UnpackFault) → SessionsData
+    × (Note × Option Report) → EndData × Taken
 takes end joined step = (with_sessions end step.0, taken_part end.known.number step.1 joined)
 
 abbrev pub part_step : EndData → FrameData → EndData × Taken
-part_step end frame = takes end (joined end frame) (session.take_step frame.port frame.bytes end.sessions)
+part_step end frame =
+    takes end (joined end frame) (session.take_step frame.port frame.bytes end.sessions)
 
 -- by whose port this comes
 unfoldable pub take_from : EndData → FrameData → PortMeaning → EndData × Taken
@@ -244,11 +261,13 @@ is_armed end = session.armed end.sessions
 
 -- An edition of rules is offered, or allowed.
 
--- the end after it adopted the edition: it reads with it, and goes on to write with the edition that it wrote with
+-- the end after it adopted the edition: it reads with it, and goes on to write with the edition
+-- that it wrote with
 abbrev pub with_known : EndData → EditionData → EndData
 with_known end edition = record end { known = edition }
 
--- the number isn't above the known one, and the lowest RuleID at which the edition diverges from the known one
+-- the number isn't above the known one, and the lowest RuleID at which the edition diverges from
+-- the known one
 unfoldable pub offer_from : EndData → EditionData → Bool → Option ℕ → EndData × Offered
 offer_from end edition true id = (end, Older)
 offer_from end edition false (Some id) = (end, Diverged id)
@@ -257,7 +276,8 @@ offer_from end edition false None = (with_known end edition, Adopted)
 -- an edition is offered: it is the known one from now on, unless it is older or diverges
 unfoldable pub offer_step : EndData → EditionData → EndData × Offered
 offer_step end edition =
-    offer_from end edition (nat_le edition.number end.known.number) (diverged end.known.rules edition.rules)
+    offer_from end edition (nat_le edition.number end.known.number)
+    (diverged end.known.rules edition.rules)
 
 -- the end after it was allowed to write with the known edition
 abbrev pub with_writes : EndData → EndData
@@ -267,6 +287,7 @@ unfoldable pub allow_from : EndData → Bool → EndData × Bool
 allow_from end true = (with_writes end, true)
 allow_from end false = (end, false)
 
--- the edition with this number is allowed: where it is the known one, the end writes with it from now on
+-- the edition with this number is allowed: where it is the known one, the end writes with it from
+-- now on
 unfoldable pub allow_step : EndData → ℕ → EndData × Bool
 allow_step end number = allow_from end (number == end.known.number)

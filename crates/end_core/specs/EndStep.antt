@@ -1,8 +1,10 @@
 -- One step of an end: an event, the end that it is then, and the outcome.
 use Rattle.std.specs.Prelude.{}
 use Rattle.end_core.specs.Data.{EndData}
-use Rattle.end_core.specs.Events.{EndEvent, Down, Slot, Take, Tick, Abort, Offer, Allow, Outcome, Handed, Sent, Took, Ticked, Aborted, Answered, Allowed}
-use Rattle.end_core.specs.End.{down_step, slot_step, take_step, tick_step, abort_step, offer_step, allow_step}
+use Rattle.end_core.specs.Events.{EndEvent, Down, Slot, Take, Tick, Abort, Offer, Allow, Outcome}
+use Rattle.end_core.specs.Events.{Handed, Sent, Took, Ticked, Aborted, Answered, Allowed}
+use Rattle.end_core.specs.End.{down_step, slot_step, take_step, tick_step, abort_step, offer_step}
+use Rattle.end_core.specs.End.{allow_step}
 
 -- the end after the event and the event's outcome, want of memory aside: by cases over the calls
 unfoldable pub end_step : EndData → EndEvent → EndData × Outcome

@@ -13,8 +13,10 @@ use Rattle.event_data.specs.declared.outcomes.Emitted.{Emitted}
 use Rattle.event_data.specs.declared.outcomes.Offered.{Offered}
 use Rattle.event_data.specs.declared.outcomes.Taken.{Taken}
 
--- a packet is handed down, the end may send one frame, a frame arrives, a tick passes, the end gives up the session that
--- it sends, is offered an edition of rules, or is allowed to write with the edition with this number
+-- a packet is handed down, the end may send one frame, a frame arrives, a tick passes, the end
+-- gives up the session that
+-- it sends, is offered an edition of rules, or is allowed to write with the edition with this
+-- number
 pub data EndEvent : Type 0 where
   Down : List ℕ → EndEvent
   Slot : EndEvent
@@ -24,8 +26,10 @@ pub data EndEvent : Type 0 where
   Offer : EditionData → EndEvent
   Allow : ℕ → EndEvent
 
--- how a packet goes or why it is refused, the frame that is sent, what a frame meant, how a session ended by a tick or by
--- being given up, what is said of an edition that was offered, and whether the end writes with the one that it was allowed
+-- how a packet goes or why it is refused, the frame that is sent, what a frame meant, how a session
+-- ended by a tick or by
+-- being given up, what is said of an edition that was offered, and whether the end writes with the
+-- one that it was allowed
 pub data Outcome : Type 0 where
   Handed : Result Accepted DownFault → Outcome
   Sent : Option Emitted → Outcome
@@ -35,11 +39,13 @@ pub data Outcome : Type 0 where
   Answered : Offered → Outcome
   Allowed : Bool → Outcome
 
--- the most bytes of an IPv6 packet: its header has 40, and 16 bits say how many follow (RFC 8200, section 3)
+-- the most bytes of an IPv6 packet: its header has 40, and 16 bits say how many follow (RFC 8200,
+-- section 3)
 abbrev pub max_ipv6_packet : ℕ
 max_ipv6_packet = 65575
 
--- a packet that a frame hands up has at most so many bytes, or as many as the frame where that is more
+-- a packet that a frame hands up has at most so many bytes, or as many as the frame where that is
+-- more
 abbrev pub IsWithin : FrameData → List ℕ → Type 0
 IsWithin frame packet = (length packet ≤ max_ipv6_packet) ⊎ (length packet ≤ length frame.bytes)
 

@@ -6,7 +6,8 @@ pub record FrameData : Type 0 where
   pub port : ℕ
   pub bytes : List ℕ
 
--- a packet that an end hands up, with the edition of rules that read it and the RuleID under which it came
+-- a packet that an end hands up, with the edition of rules that read it and the RuleID under which
+-- it came
 pub record HandUpData : Type 0 where
   pub edition : ℕ
   pub rule_id : ℕ

@@ -17,10 +17,12 @@ head params form.SenderAbort =
     fragment_head params.w_bits params.fcn_bits (all_ones params.w_bits) (all_ones params.fcn_bits)
 head params (form.Ack w true bitmap) = answer_head params.w_bits w 1
 head params (form.Ack w false bitmap) =
-    answer_head params.w_bits w 0 ++ kept_bits (params.w_bits + 1) (number_bits params.window bitmap)
+    answer_head params.w_bits w 0 ++ kept_bits (params.w_bits + 1)
+    (number_bits params.window bitmap)
 head params form.ReceiverAbort = number_bits 16 (all_ones 16)
 
--- the bytes that are written for the message with the payload: with the fewest zero bits after them that make whole bytes
+-- the bytes that are written for the message with the payload: with the fewest zero bits after them
+-- that make whole bytes
 abbrev pub written : FragParams → Message → List Bool → List ℕ
 written params message payload = bytes_of (padded (head params message ++ payload))
 

@@ -8,8 +8,10 @@ use Rattle.schc_ids.specs.declared.fragments.FragParams.{FragParams}
 use Rattle.schc_ids.specs.declared.fragments.Side.{Side}
 use Rattle.schc_ids.specs.declared.fragments.Side.TheVariants as side
 use Rattle.frag_wire.specs.declared.message.Message.{Message}
-use Rattle.frag_wire.specs.AckAlways.{SpellsAckAlways, IsAckAlwaysFault, ack_always_reading, CanSpellAckAlways}
-use Rattle.frag_wire.specs.AckOnError.{SpellsAckOnError, IsAckOnErrorFault, ack_on_error_reading, CanSpellAckOnError}
+use Rattle.frag_wire.specs.AckAlways.{SpellsAckAlways, IsAckAlwaysFault, ack_always_reading}
+use Rattle.frag_wire.specs.AckAlways.{CanSpellAckAlways}
+use Rattle.frag_wire.specs.AckOnError.{SpellsAckOnError, IsAckOnErrorFault, ack_on_error_reading}
+use Rattle.frag_wire.specs.AckOnError.{CanSpellAckOnError}
 use Rattle.frag_wire.specs.Answers.{SpellsAnswer, IsAnswerFault, answer_reading, CanSpellAnswer}
 use Rattle.frag_wire.specs.NoAck.{SpellsNoAck, IsNoAckFault, no_ack_reading, CanSpellNoAck}
 use Rattle.frag_wire.specs.Layouts.{placed, with_padding}
@@ -21,14 +23,18 @@ HasSide mode.NoAck side.Answers = ⊥
 HasSide mode.AckAlways way = Unit {0}
 HasSide mode.AckOnError way = Unit {0}
 
--- answers of ACK-Always have one byte, those of ACK-on-Error at most nine: W and C, and a bitmap of a window
+-- answers of ACK-Always have one byte, those of ACK-on-Error at most nine: W and C, and a bitmap of
+-- a window
 abbrev pub SpellsIn : FragMode → Side → Message → List Bool → List ℕ → Type 0
 SpellsIn mode.NoAck side.Fragments message payload bytes = SpellsNoAck message payload bytes
 SpellsIn mode.NoAck side.Answers message payload bytes = ⊥
 SpellsIn mode.AckAlways side.Fragments message payload bytes = SpellsAckAlways message payload bytes
-SpellsIn mode.AckAlways side.Answers message payload bytes = SpellsAnswer 1 1 1 message payload bytes
-SpellsIn mode.AckOnError side.Fragments message payload bytes = SpellsAckOnError message payload bytes
-SpellsIn mode.AckOnError side.Answers message payload bytes = SpellsAnswer 2 63 9 message payload bytes
+SpellsIn mode.AckAlways side.Answers message payload bytes =
+    SpellsAnswer 1 1 1 message payload bytes
+SpellsIn mode.AckOnError side.Fragments message payload bytes =
+    SpellsAckOnError message payload bytes
+SpellsIn mode.AckOnError side.Answers message payload bytes =
+    SpellsAnswer 2 63 9 message payload bytes
 
 -- the bytes are the message with the payload
 abbrev pub Spells : FragParams → Side → Message → List Bool → List ℕ → Type 0
@@ -68,7 +74,9 @@ abbrev pub CanSpell : FragParams → Side → Message → List Bool → Type 0
 CanSpell params way message payload = CanSpellIn params.mode way message payload
 
 -- the bytes are the message with the payload and fewer than eight zero bits after it
-pub record IsWritten (params : FragParams) (way : Side) (message : Message) (payload : List Bool) (bytes : List ℕ) : Type 0 where
+pub record IsWritten (params : FragParams) (way : Side) (message : Message) (payload : List Bool)
+    (bytes : List ℕ) : Type 0 where
   pub padding : ℕ
   pub short : padding < 8
-  pub spells : Spells params way (placed params message) (with_padding message payload padding) bytes
+  pub spells : Spells params way (placed params message) (with_padding message payload padding)
+      bytes

@@ -10,19 +10,34 @@ use Rattle.rule_model.specs.First.{first_held}
 use Rattle.ip_udp_fields.specs.Join.{presence, order, value_refusals, join_refusal}
 use Rattle.rule_model.proofs.FirstLemmas.{first_held-append_some, first_held-append_none}
 
-pub join_refusal-presence : (of : Stack) (direction : Direction) (fields : List FieldValue) (size : ℕ) (fault : JoinFault) → first_held (presence fields (fields_in_packet_order of direction)) ≡ Some fault → join_refusal of direction fields size ≡ Some fault
+pub join_refusal-presence : (of : Stack) (direction : Direction) (fields : List FieldValue)
+    (size : ℕ) (fault : JoinFault)
+    → first_held (presence fields (fields_in_packet_order of direction)) ≡ Some fault
+    → join_refusal of direction fields size ≡ Some fault
 unfolding join_refusal
 join_refusal-presence of direction fields size fault e =
-    first_held-append_some (presence fields (fields_in_packet_order of direction)) (order (fields_in_packet_order of direction) fields ++ value_refusals of fields size) fault e
+    first_held-append_some (presence fields (fields_in_packet_order of direction))
+    (order (fields_in_packet_order of direction) fields ++ value_refusals of fields size) fault
+    e
 
-pub join_refusal-order : (of : Stack) (direction : Direction) (fields : List FieldValue) (size : ℕ) (fault : JoinFault) → first_held (presence fields (fields_in_packet_order of direction)) ≡ None → first_held (order (fields_in_packet_order of direction) fields) ≡ Some fault → join_refusal of direction fields size ≡ Some fault
+pub join_refusal-order : (of : Stack) (direction : Direction) (fields : List FieldValue) (size : ℕ)
+    (fault : JoinFault) → first_held (presence fields (fields_in_packet_order of direction)) ≡ None
+    → first_held (order (fields_in_packet_order of direction) fields) ≡ Some fault
+    → join_refusal of direction fields size ≡ Some fault
 unfolding join_refusal
 join_refusal-order of direction fields size fault p e =
-    first_held-append_none (presence fields (fields_in_packet_order of direction)) (order (fields_in_packet_order of direction) fields ++ value_refusals of fields size) p
-    ∙ first_held-append_some (order (fields_in_packet_order of direction) fields) (value_refusals of fields size) fault e
+    first_held-append_none (presence fields (fields_in_packet_order of direction))
+    (order (fields_in_packet_order of direction) fields ++ value_refusals of fields size) p
+    ∙ first_held-append_some (order (fields_in_packet_order of direction) fields)
+    (value_refusals of fields size) fault e
 
-pub join_refusal-values : (of : Stack) (direction : Direction) (fields : List FieldValue) (size : ℕ) → first_held (presence fields (fields_in_packet_order of direction)) ≡ None → first_held (order (fields_in_packet_order of direction) fields) ≡ None → join_refusal of direction fields size ≡ first_held (value_refusals of fields size)
+pub join_refusal-values : (of : Stack) (direction : Direction) (fields : List FieldValue) (size : ℕ)
+    → first_held (presence fields (fields_in_packet_order of direction)) ≡ None
+    → first_held (order (fields_in_packet_order of direction) fields) ≡ None
+    → join_refusal of direction fields size ≡ first_held (value_refusals of fields size)
 unfolding join_refusal
 join_refusal-values of direction fields size p o =
-    first_held-append_none (presence fields (fields_in_packet_order of direction)) (order (fields_in_packet_order of direction) fields ++ value_refusals of fields size) p
-    ∙ first_held-append_none (order (fields_in_packet_order of direction) fields) (value_refusals of fields size) o
+    first_held-append_none (presence fields (fields_in_packet_order of direction))
+    (order (fields_in_packet_order of direction) fields ++ value_refusals of fields size) p
+    ∙ first_held-append_none (order (fields_in_packet_order of direction) fields)
+    (value_refusals of fields size) o

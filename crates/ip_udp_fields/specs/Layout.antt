@@ -1,4 +1,5 @@
--- Where the fields of an IPv6 header (RFC 8200, section 3) and of a UDP header (RFC 768) stand in a packet, in bits.
+-- Where the fields of an IPv6 header (RFC 8200, section 3) and of a UDP header (RFC 768) stand in a
+-- packet, in bits.
 use Rattle.std.specs.Prelude.{ℕ, List, Bool, map, take, drop}
 use Rattle.schc_bits.specs.Bits.{octets, bits_value}
 use Rattle.schc_ids.specs.declared.ends.Direction.{Direction}
@@ -21,7 +22,8 @@ abbrev pub header_size : Stack → ℕ
 header_size stack.Ip = 40
 header_size _ = 48
 
--- the device's one of two places, that of a source and that of a destination: on the way up the device is the source,
+-- the device's one of two places, that of a source and that of a destination: on the way up the
+-- device is the source,
 -- on the way down it is the destination
 abbrev pub device_place : Direction → ℕ → ℕ → ℕ
 device_place Up source destination = source
@@ -45,7 +47,8 @@ place_of direction fid.UdpLength = 352
 place_of direction fid.UdpChecksum = 368
 place_of direction _ = 384
 
--- the field that stands where this one stands on the way up: on the way down source and destination are exchanged
+-- the field that stands where this one stands on the way up: on the way down source and destination
+-- are exchanged
 abbrev pub mirrored : Direction → FieldName → FieldName
 mirrored Up name = name
 mirrored Down fid.IpDevPrefix = fid.IpAppPrefix
@@ -56,7 +59,8 @@ mirrored Down fid.UdpDevPort = fid.UdpAppPort
 mirrored Down fid.UdpAppPort = fid.UdpDevPort
 mirrored Down name = name
 
--- the fields of the headers of a stack in packet order: the source's address and port stand before the destination's
+-- the fields of the headers of a stack in packet order: the source's address and port stand before
+-- the destination's
 abbrev pub fields_in_packet_order : Stack → Direction → List FieldName
 fields_in_packet_order stack direction = map (mirrored direction) (fields_of_stack stack)
 

@@ -3,7 +3,8 @@ use Rattle.std.specs.Prelude.{ℕ, ◌-◌, ◌==◌, Bool, not, List, [], ◌�
 use Rattle.schc_ids.specs.declared.names.Stack.{Stack}
 use Rattle.schc_ids.specs.declared.names.Stack.TheVariants as stack
 use Rattle.rule_model.specs.declared.parts.SplitFault.{SplitFault}
-use Rattle.rule_model.specs.declared.parts.SplitFault.TheVariants.{Short, NotIpv6, LengthWrong, NotUdp}
+use Rattle.rule_model.specs.declared.parts.SplitFault.TheVariants.{Short, NotIpv6, LengthWrong}
+use Rattle.rule_model.specs.declared.parts.SplitFault.TheVariants.{NotUdp}
 use Rattle.ip_udp_fields.specs.Layout.{number_in}
 use Rattle.rule_model.specs.First.{first_held}
 

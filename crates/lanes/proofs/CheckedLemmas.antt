@@ -29,27 +29,38 @@ checked-step time l event p k =
 pub checked-begins : (params : LaneParams) → AreLaneParams params → CheckedKeeps (new_lane params)
 unfolding new_lane
 checked-begins params are =
-    record { sender = (are, tt); out = tt; kept = kept-begins (IsRcsOf params [] _) params.frag.mode; joins = tt }
+    record {
+      sender = (are, tt);
+      out = tt;
+      kept =
+          kept-begins (IsRcsOf params [] _) params.frag.mode;
+      joins = tt;
+    }
 
-pub run-checked : (params : LaneParams) (events : List (ℕ × LaneEvent)) → AreLaneParams params → ArePossible params events → CheckedKeeps (lane_after params events)
+pub run-checked : (params : LaneParams) (events : List (ℕ × LaneEvent)) → AreLaneParams params
+    → ArePossible params events → CheckedKeeps (lane_after params events)
 run-checked params events are possible =
-    run-keeps Possible CheckedKeeps checked-step events (new_lane params) possible (checked-begins params are)
+    run-keeps Possible CheckedKeeps checked-step events (new_lane params) possible
+    (checked-begins params are)
 
 pub checked : Checked
 checked params events are possible =
     let k = run-checked params events are possible in record { sent = k.out; joined = k.joins }
 
-pub padded-join : (l : Lane) (join : Check) → IsHonest l → IsRightJoin l.params l.begins l.checks join → IsPadded l join
+pub padded-join : (l : Lane) (join : Check) → IsHonest l
+    → IsRightJoin l.params l.begins l.checks join → IsPadded l join
 padded-join l join honest k =
     record {
       begun = k.session.begun;
       there = k.session.there;
       labelled = k.session.labelled;
-      same_bits = honest join k.session.begun k.made k.session.there k.session.labelled k.session.same;
+      same_bits =
+          honest join k.session.begun k.made k.session.there k.session.labelled k.session.same;
       earlier = k.earlier;
     }
 
 pub joins-padded : JoinsPadded
 joins-padded params events are possible honest =
     let l : Lane = lane_after params events in
-    all-weaken (IsRightJoin l.params l.begins l.checks) (IsPadded l) l.joins (λ join. padded-join l join honest) (run-checked params events are possible).joins
+    all-weaken (IsRightJoin l.params l.begins l.checks) (IsPadded l) l.joins
+    (λ join. padded-join l join honest) (run-checked params events are possible).joins

@@ -14,4 +14,5 @@ clean-in mode.AckAlways = clean-ack_always
 clean-in mode.AckOnError = clean-ack_on_error
 
 pub clean : Clean
-clean params number bits left are can = clean-in params.frag.mode params number bits left are refl can
+clean params number bits left are can =
+    clean-in params.frag.mode params number bits left are refl can

@@ -17,7 +17,8 @@ use Rattle.lanes.specs.Lane.{LaneParams, LaneReport, Lane, new_lane}
 use Rattle.lanes.specs.Laws.{IsRightJoin, Earned, Arrived}
 use Rattle.lanes.specs.Runs.{ArePossible, lane_after}
 use Rattle.lanes.proofs.CheckedLemmas.{run-checked}
-use Rattle.lanes.proofs.EarnedKept.{IsLastLabel, PhaseIs, ReceiverKeeps, BackKeeps, ReportsKeep, receiver-step, back-step, reports-step}
+use Rattle.lanes.proofs.EarnedKept.{IsLastLabel, PhaseIs, ReceiverKeeps, BackKeeps, ReportsKeep}
+use Rattle.lanes.proofs.EarnedKept.{receiver-step, back-step, reports-step}
 use Rattle.lanes.proofs.JoinsKept.{kept-begins}
 use Rattle.lanes.proofs.ListLemmas.{all-weaken, all-among}
 use Rattle.lanes.proofs.RunLemmas.{IsKept, run-keeps, along-both}
@@ -41,7 +42,8 @@ new-mode mode.NoAck = refl
 new-mode mode.AckAlways = refl
 new-mode mode.AckOnError = refl
 
-pub new-phase : (P : ReceiverPhase → Type 0) (m : FragMode) → P Empty → P (receiver_phase (new_receiver m))
+pub new-phase : (P : ReceiverPhase → Type 0) (m : FragMode) → P Empty
+    → P (receiver_phase (new_receiver m))
 unfolding new_receiver receiver_phase aoe.receiver_phase aoe.empty_receiver
 new-phase P mode.NoAck k = k
 new-phase P mode.AckAlways k = k
@@ -61,15 +63,19 @@ earned-begins params =
       reports = tt;
     }
 
-pub run-earned : (params : LaneParams) (events : List (ℕ × LaneEvent)) → ArePossible params events → AreFresh params events → EarnedKeeps (lane_after params events)
+pub run-earned : (params : LaneParams) (events : List (ℕ × LaneEvent)) → ArePossible params events
+    → AreFresh params events → EarnedKeeps (lane_after params events)
 run-earned params events possible fresh =
-    run-keeps (λ time l event. Possible time l event × IsFresh time l event) EarnedKeeps earned-step events (new_lane params)
+    run-keeps (λ time l event. Possible time l event × IsFresh time l event) EarnedKeeps earned-step
+    events (new_lane params)
     (along-both Possible IsFresh events (new_lane params) possible fresh) (earned-begins params)
 
 pub earned : Earned
 earned params events possible fresh = (run-earned params events possible fresh).reports
 
-arrives : (l : Lane) (report : LaneReport) → IsHonest l → AllByRecursion (IsRightJoin l.params l.begins l.checks) l.joins → IsEarned l.joins report → report.kind ≡ Delivered → IsArrived l report
+arrives : (l : Lane) (report : LaneReport) → IsHonest l
+    → AllByRecursion (IsRightJoin l.params l.begins l.checks) l.joins → IsEarned l.joins report
+    → report.kind ≡ Delivered → IsArrived l report
 arrives l report honest joins earned e =
     let k = earned e in
     let right = all-among (IsRightJoin l.params l.begins l.checks) l.joins k.join k.there joins in
@@ -80,7 +86,9 @@ arrives l report honest joins earned e =
       join = k.join;
       joined = k.there;
       same_session = k.of_it;
-      same_bits = honest k.join right.session.begun right.made right.session.there right.session.labelled right.session.same;
+      same_bits =
+          honest k.join right.session.begun right.made right.session.there right.session.labelled
+          right.session.same;
       earlier = k.earlier;
     }
 

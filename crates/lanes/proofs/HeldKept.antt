@@ -1,5 +1,6 @@
 -- What a receiver of ACK-on-Error holds is of the last session, where the events are fresh.
-use Rattle.std.specs.Prelude.{ℕ, ◌≡◌, ◌<◌, ◌≤◌, Bool, true, false, List, [], ◌∷◌, ◌++◌, length, take, drop, replicate, Option, Some, None, Result, Ok, Err}
+use Rattle.std.specs.Prelude.{ℕ, ◌≡◌, ◌<◌, ◌≤◌, Bool, true, false, List, [], ◌∷◌, ◌++◌, length}
+use Rattle.std.specs.Prelude.{take, drop, replicate, Option, Some, None, Result, Ok, Err}
 use Rattle.std.proofs.Common.{arith, refl, sym, ap, subst, ◌∙◌, inl, inr}
 use Rattle.std.proofs.lemmas.List.{length-take}
 use Rattle.std.specs.List.{AllByRecursion}
@@ -26,7 +27,8 @@ use Rattle.aoe_sender.specs.Steps as sender_step
 use Rattle.aoe_sender.specs.Tiles.{padded_packet, all_tiles, regular_count, regular_tiles}
 use Rattle.aoe_sender.proofs.KeepsLemmas.{begun-keeps}
 use Rattle.aoe_sender.proofs.MessageLemmas.{count-bound}
-use Rattle.sessions.specs.Receivers.{receiver_mode, receiver_phase, receiver_taken, receiver_idled, receiver_lapsed, receiver_due, receiver_answered}
+use Rattle.sessions.specs.Receivers.{receiver_mode, receiver_phase, receiver_taken, receiver_idled}
+use Rattle.sessions.specs.Receivers.{receiver_lapsed, receiver_due, receiver_answered}
 use Rattle.sessions.specs.Reception.{reception_taken, reception_answered}
 use Rattle.sessions.specs.Senders.{sender_due}
 use Rattle.sessions.specs.Session.{Session}
@@ -34,13 +36,17 @@ use Rattle.sessions.specs.declared.receivers.Receiver.{Receiver}
 use Rattle.sessions.specs.declared.receivers.Receiver.TheVariants.{NoAck, AckAlways, AckOnError}
 use Rattle.sessions.specs.declared.senders.Sender.{Sender}
 use Rattle.sessions.specs.declared.senders.Sender.TheVariants as sender
-use Rattle.lanes.specs.Events.{LaneEvent, Begin, Send, Answer, Fragment, Ack, SenderTick, ReceiverTick, Abort, Possible, CanBegin}
+use Rattle.lanes.specs.Events.{LaneEvent, Begin, Send, Answer, Fragment, Ack, SenderTick}
+use Rattle.lanes.specs.Events.{ReceiverTick, Abort, Possible, CanBegin}
 use Rattle.lanes.specs.Fresh.{IsOfLast, IsFresh}
 use Rattle.lanes.specs.Held.{AreHeldOf, session_tiles, HoldsIn, HoldsOnly, HoldsOf}
-use Rattle.lanes.specs.Lane.{LaneParams, AreLaneParams, Begun, Lane, Msg, last_item, place_of, session_place}
-use Rattle.lanes.specs.Step.{msg, lane_session, lane_sent, lane_sends, lane_begun, lane_begins, lane_told, lane_taken, lane_took, lane_answered, lane_step}
+use Rattle.lanes.specs.Lane.{LaneParams, AreLaneParams, Begun, Lane, Msg, last_item, place_of}
+use Rattle.lanes.specs.Lane.{session_place}
+use Rattle.lanes.specs.Step.{msg, lane_session, lane_sent, lane_sends, lane_begun, lane_begins}
+use Rattle.lanes.specs.Step.{lane_told, lane_taken, lane_took, lane_answered, lane_step}
 use Rattle.lanes.proofs.EarnedKept.{ReceiverKeeps, answered-phase, idled-phase, lapsed-phase}
-use Rattle.lanes.proofs.ListLemmas.{all-weaken, all-append, all-among, among-more, among-last, last-push}
+use Rattle.lanes.proofs.ListLemmas.{all-weaken, all-append, all-among, among-more, among-last}
+use Rattle.lanes.proofs.ListLemmas.{last-push}
 use Rattle.lanes.proofs.SenderKept.{IsLast, SenderIs, SenderKeeps, begins-last}
 use Rattle.lanes.proofs.SenderLemmas.{IsSenderOf}
 use Rattle.lanes.proofs.TickedLemmas.{OutlastsTimers, ticked-keeps}
@@ -50,25 +56,34 @@ use Rattle.lanes.proofs.TileLemmas.{HasRun, due-run}
 
 abbrev pub Ascends : List Begun → Type 0
 Ascends [] = Unit {0}
-Ascends (begun ∷ begins) = AllByRecursion (λ later. begun.place < later.place) begins × Ascends begins
+Ascends (begun ∷ begins) = AllByRecursion (λ later. begun.place < later.place) begins
+    × Ascends begins
 
 abbrev pub BeginsKeep : Lane → Type 0
 BeginsKeep l = Ascends l.begins × AllByRecursion (λ begun. CanBegin begun.bits) l.begins
 
-ascends-push : (begins : List Begun) (begun : Begun) → AllByRecursion (λ earlier. earlier.place < begun.place) begins → Ascends begins → Ascends (begins ++ begun ∷ [])
+ascends-push : (begins : List Begun) (begun : Begun)
+    → AllByRecursion (λ earlier. earlier.place < begun.place) begins → Ascends begins
+    → Ascends (begins ++ begun ∷ [])
 ascends-push [] begun below k = (tt, tt)
-ascends-push (first ∷ begins) begun below k =
-    (all-append (λ (later : Begun). first.place < later.place) begins (begun ∷ []) k.0 (below.0, tt), ascends-push begins begun below.1 k.1)
+ascends-push (first ∷ begins) begun below k = (
+  all-append (λ (later : Begun). first.place < later.place) begins (begun ∷ []) k.0
+      (below.0, tt),
+  ascends-push begins begun below.1 k.1,
+)
 
-same-place : (begins : List Begun) (x y : Begun) → Ascends begins → Among x begins → Among y begins → x.place ≡ y.place → x ≡ y
+same-place : (begins : List Begun) (x y : Begun) → Ascends begins → Among x begins → Among y begins
+    → x.place ≡ y.place → x ≡ y
 same-place [] x y k there other e = absurd there
 same-place (first ∷ begins) x y k (inl a) (inl b) e = a ∙ sym b
 same-place (first ∷ begins) x y k (inl a) (inr b) e =
-    let later : first.place < y.place = all-among (λ (later : Begun). first.place < later.place) begins y b k.0 in
+    let later : first.place < y.place =
+    all-among (λ (later : Begun). first.place < later.place) begins y b k.0 in
     let same : x.place ≡ first.place = ap (λ (begun : Begun). begun.place) a in
     absurd (omega (arith, later, same, e))
 same-place (first ∷ begins) x y k (inr a) (inl b) e =
-    let later : first.place < x.place = all-among (λ (later : Begun). first.place < later.place) begins x a k.0 in
+    let later : first.place < x.place =
+    all-among (λ (later : Begun). first.place < later.place) begins x a k.0 in
     let same : y.place ≡ first.place = ap (λ (begun : Begun). begun.place) b in
     absurd (omega (arith, later, same, e))
 same-place (first ∷ begins) x y k (inr a) (inr b) e = same-place begins x y k.1 a b e
@@ -82,40 +97,52 @@ last-none [] x e there = there
 last-none (first ∷ []) x e there = absurd cc
 last-none (first ∷ next ∷ begins) x e there = absurd (some-last next begins e)
 
-sent-begins : (time : ℕ) (l : Lane) (session : Session) (bytes : Option (List ℕ)) → BeginsKeep l → BeginsKeep (lane_sent time l session bytes)
+sent-begins : (time : ℕ) (l : Lane) (session : Session) (bytes : Option (List ℕ)) → BeginsKeep l
+    → BeginsKeep (lane_sent time l session bytes)
 unfolding lane_sent
 sent-begins time l session None k = k
 sent-begins time l session (Some bytes) k = k
 
-sends-begins : (time : ℕ) (l : Lane) (session : Option Session) → BeginsKeep l → BeginsKeep (lane_sends time l session)
+sends-begins : (time : ℕ) (l : Lane) (session : Option Session) → BeginsKeep l
+    → BeginsKeep (lane_sends time l session)
 unfolding lane_sends
 sends-begins time l None k = k
 sends-begins time l (Some session) k = sent-begins time l session (sender_due session.sender) k
 
-begun-begins : (time : ℕ) (l : Lane) (begun : Begun) (session : Session) (bytes : Option (List ℕ)) → AllByRecursion (λ earlier. earlier.place < begun.place) l.begins → CanBegin begun.bits → BeginsKeep l → BeginsKeep (lane_begun time l begun session bytes)
+begun-begins : (time : ℕ) (l : Lane) (begun : Begun) (session : Session) (bytes : Option (List ℕ))
+    → AllByRecursion (λ earlier. earlier.place < begun.place) l.begins → CanBegin begun.bits
+    → BeginsKeep l → BeginsKeep (lane_begun time l begun session bytes)
 unfolding lane_begun
 begun-begins time l begun session None below can k = k
-begun-begins time l begun session (Some bytes) below can k =
-    (ascends-push l.begins begun below k.0, all-append (λ (begun : Begun). CanBegin begun.bits) l.begins (begun ∷ []) k.1 (can, tt))
+begun-begins time l begun session (Some bytes) below can k = (
+  ascends-push l.begins begun below k.0,
+  all-append (λ (begun : Begun). CanBegin begun.bits)
+      l.begins (begun ∷ []) k.1 (can, tt),
+)
 
-took-begins : (time : ℕ) (l : Lane) (m : Msg) (reading : Result Message WireFault) → BeginsKeep l → BeginsKeep (lane_took time l m reading)
+took-begins : (time : ℕ) (l : Lane) (m : Msg) (reading : Result Message WireFault) → BeginsKeep l
+    → BeginsKeep (lane_took time l m reading)
 unfolding lane_took lane_taken
 took-begins time l m (Err fault) k = k
 took-begins time l m (Ok message) k = k
 
-answered-begins : (l : Lane) (bytes : Option (List ℕ)) → BeginsKeep l → BeginsKeep (lane_answered l bytes)
+answered-begins : (l : Lane) (bytes : Option (List ℕ)) → BeginsKeep l
+    → BeginsKeep (lane_answered l bytes)
 unfolding lane_answered
 answered-begins l None k = k
 answered-begins l (Some bytes) k = k
 
-pub begins-step : (time : ℕ) (l : Lane) (event : LaneEvent) → Possible time l event → BeginsKeep l → BeginsKeep (lane_step time l event)
+pub begins-step : (time : ℕ) (l : Lane) (event : LaneEvent) → Possible time l event → BeginsKeep l
+    → BeginsKeep (lane_step time l event)
 unfolding lane_step lane_begins lane_told
 begins-step time l (Begin place number bits) p k =
     let session : Session = lane_session l.params number bits in
-    begun-begins time l (record { time = time; place = place; number = number; bits = bits }) session (sender_due session.sender) p.1 p.2 k
+    begun-begins time l (record { time = time; place = place; number = number; bits = bits })
+    session (sender_due session.sender) p.1 p.2 k
 begins-step time l Send p k = sends-begins time l l.sender k
 begins-step time l Answer p k = answered-begins l (receiver_due l.reception.receiver) k
-begins-step time l (Fragment m) p k = took-begins time l m (reading_in l.params.frag.mode side.Fragments m.bytes) k
+begins-step time l (Fragment m) p k =
+    took-begins time l m (reading_in l.params.frag.mode side.Fragments m.bytes) k
 begins-step time l (Ack m) p k = k
 begins-step time l SenderTick p k = k
 begins-step time l ReceiverTick p k = k
@@ -128,15 +155,26 @@ pub record IsRunMsg (params : LaneParams) (begins : List Begun) (m : Msg) : Type
   pub begun : Begun
   pub there : Among begun begins
   pub labelled : m.label ≡ Some begun.place
-  pub runs : params.frag.mode ≡ mode.AckOnError → (message : Message) → reading_in params.frag.mode side.Fragments m.bytes ≡ Ok message → HasRun (session_tiles params begun.bits) message (payload_in message (octets m.bytes))
+  pub runs : params.frag.mode ≡ mode.AckOnError → (message : Message)
+      → reading_in params.frag.mode side.Fragments m.bytes ≡ Ok message
+      → HasRun (session_tiles params begun.bits) message (payload_in message (octets m.bytes))
 
 abbrev pub RunsKeep : Lane → Type 0
 RunsKeep l = AllByRecursion (IsRunMsg l.params l.begins) l.out
 
-runs-more : (params : LaneParams) (begins more : List Begun) (out : List Msg) → AllByRecursion (IsRunMsg params begins) out → AllByRecursion (IsRunMsg params (begins ++ more)) out
+runs-more : (params : LaneParams) (begins more : List Begun) (out : List Msg)
+    → AllByRecursion (IsRunMsg params begins) out
+    → AllByRecursion (IsRunMsg params (begins ++ more)) out
 runs-more params begins more out k =
     all-weaken (IsRunMsg params begins) (IsRunMsg params (begins ++ more)) out
-    (λ m run. record { begun = run.begun; there = among-more run.begun begins more run.there; labelled = run.labelled; runs = run.runs }) k
+    (λ m run.
+    record {
+      begun = run.begun;
+      there = among-more run.begun begins more run.there;
+      labelled =
+          run.labelled;
+      runs = run.runs;
+    }) k
 
 -- the tiles of a sender are those of its session
 tiles_in : FragParams → ℕ → LastTile → List Bool → List (List Bool)
@@ -146,7 +184,8 @@ tiles-of : (s : AoeSenderData) → regular_tiles s ≡ tiles_in s.params s.mtu s
 unfolding tiles_in regular_tiles regular_count all_tiles padded_packet sender_step.begun
 tiles-of s = refl
 
-tiles-session : (params : LaneParams) (bits : List Bool) (s : AoeSenderData) → IsSenderOf params bits (sender.AckOnError s) → regular_tiles s ≡ session_tiles params bits
+tiles-session : (params : LaneParams) (bits : List Bool) (s : AoeSenderData)
+    → IsSenderOf params bits (sender.AckOnError s) → regular_tiles s ≡ session_tiles params bits
 unfolding tiles_in
 tiles-session params bits s is =
     tiles-of s
@@ -155,9 +194,12 @@ tiles-session params bits s is =
     ∙ ap (λ (last : LastTile). tiles_in params.frag params.ends.mtu last s.bits) is.last
     ∙ ap (λ (b : List Bool). tiles_in params.frag params.ends.mtu params.ends.last b) is.same
 
-wrong-mode : (m : FragMode) (frag own : FragParams) → own ≡ params_of m → own ≡ frag → frag.mode ≡ mode.AckOnError → m ≡ mode.AckOnError
-wrong-mode mode.NoAck frag own row same e = sym (ap (λ (p : FragParams). p.mode) row) ∙ ap (λ (p : FragParams). p.mode) same ∙ e
-wrong-mode mode.AckAlways frag own row same e = sym (ap (λ (p : FragParams). p.mode) row) ∙ ap (λ (p : FragParams). p.mode) same ∙ e
+wrong-mode : (m : FragMode) (frag own : FragParams) → own ≡ params_of m → own ≡ frag
+    → frag.mode ≡ mode.AckOnError → m ≡ mode.AckOnError
+wrong-mode mode.NoAck frag own row same e = sym (ap (λ (p : FragParams). p.mode) row)
+    ∙ ap (λ (p : FragParams). p.mode) same ∙ e
+wrong-mode mode.AckAlways frag own row same e = sym (ap (λ (p : FragParams). p.mode) row)
+    ∙ ap (λ (p : FragParams). p.mode) same ∙ e
 wrong-mode mode.AckOnError frag own row same e = refl
 
 not-no_ack : mode.NoAck ≡ mode.AckOnError → ⊥
@@ -166,15 +208,25 @@ not-no_ack e = cc
 not-always : mode.AckAlways ≡ mode.AckOnError → ⊥
 not-always e = cc
 
-sender-run : (params : LaneParams) (bits : List Bool) (s : Sender) (bytes : List ℕ) → IsSenderOf params bits s → sender_due s ≡ Some bytes → params.frag.mode ≡ mode.AckOnError → (message : Message) → reading_in params.frag.mode side.Fragments bytes ≡ Ok message → HasRun (session_tiles params bits) message (payload_in message (octets bytes))
+sender-run : (params : LaneParams) (bits : List Bool) (s : Sender) (bytes : List ℕ)
+    → IsSenderOf params bits s → sender_due s ≡ Some bytes → params.frag.mode ≡ mode.AckOnError
+    → (message : Message) → reading_in params.frag.mode side.Fragments bytes ≡ Ok message
+    → HasRun (session_tiles params bits) message (payload_in message (octets bytes))
 unfolding sender_due
-sender-run params bits (sender.NoAck s) bytes is e m message read = absurd (not-no_ack (wrong-mode mode.NoAck params.frag s.params is.sound.row is.row m))
-sender-run params bits (sender.AckAlways s) bytes is e m message read = absurd (not-always (wrong-mode mode.AckAlways params.frag s.params is.sound.row is.row m))
+sender-run params bits (sender.NoAck s) bytes is e m message read =
+    absurd (not-no_ack (wrong-mode mode.NoAck params.frag s.params is.sound.row is.row m))
+sender-run params bits (sender.AckAlways s) bytes is e m message read =
+    absurd (not-always (wrong-mode mode.AckAlways params.frag s.params is.sound.row is.row m))
 sender-run params bits (sender.AckOnError s) bytes is e m message read =
-    subst (λ (tiles : List (List Bool)). HasRun tiles message (payload_in message (octets bytes))) (tiles-session params bits s is)
-    (due-run s bytes message is.sound e (subst (λ (frag : FragParams). reading_in frag.mode side.Fragments bytes ≡ Ok message) (sym is.row) read))
+    subst (λ (tiles : List (List Bool)). HasRun tiles message (payload_in message (octets bytes)))
+    (tiles-session params bits s is)
+    (due-run s bytes message is.sound e
+    (subst (λ (frag : FragParams). reading_in frag.mode side.Fragments bytes ≡ Ok message)
+    (sym is.row) read))
 
-due-runs : (params : LaneParams) (begins : List Begun) (s : Sender) (at : ℕ) (bytes : List ℕ) → IsLast params begins s → sender_due s ≡ Some bytes → IsRunMsg params begins (msg (session_place begins) at bytes)
+due-runs : (params : LaneParams) (begins : List Begun) (s : Sender) (at : ℕ) (bytes : List ℕ)
+    → IsLast params begins s → sender_due s ≡ Some bytes
+    → IsRunMsg params begins (msg (session_place begins) at bytes)
 due-runs params begins s at bytes k e =
     record {
       begun = k.begun;
@@ -183,27 +235,40 @@ due-runs params begins s at bytes k e =
       runs = sender-run params k.begun.bits s bytes k.of_it e;
     }
 
-sent-runs : (time : ℕ) (l : Lane) (session : Session) (bytes : Option (List ℕ)) → sender_due session.sender ≡ bytes → IsLast l.params l.begins session.sender → RunsKeep l → RunsKeep (lane_sent time l session bytes)
+sent-runs : (time : ℕ) (l : Lane) (session : Session) (bytes : Option (List ℕ))
+    → sender_due session.sender ≡ bytes → IsLast l.params l.begins session.sender → RunsKeep l
+    → RunsKeep (lane_sent time l session bytes)
 unfolding lane_sent
 sent-runs time l session None e is k = k
 sent-runs time l session (Some bytes) e is k =
-    all-append (IsRunMsg l.params l.begins) l.out (msg (session_place l.begins) l.sender_time bytes ∷ []) k
+    all-append (IsRunMsg l.params l.begins) l.out
+    (msg (session_place l.begins) l.sender_time bytes ∷ []) k
     (due-runs l.params l.begins session.sender l.sender_time bytes is e, tt)
 
-sends-runs : (time : ℕ) (l : Lane) (session : Option Session) → SenderIs l.params l.begins session → RunsKeep l → RunsKeep (lane_sends time l session)
+sends-runs : (time : ℕ) (l : Lane) (session : Option Session) → SenderIs l.params l.begins session
+    → RunsKeep l → RunsKeep (lane_sends time l session)
 unfolding lane_sends
 sends-runs time l None is k = k
-sends-runs time l (Some session) is k = sent-runs time l session (sender_due session.sender) refl is k
+sends-runs time l (Some session) is k =
+    sent-runs time l session (sender_due session.sender) refl is k
 
-begun-runs : (time : ℕ) (l : Lane) (begun : Begun) (session : Session) (bytes : Option (List ℕ)) → sender_due session.sender ≡ bytes → IsLast l.params (l.begins ++ begun ∷ []) session.sender → RunsKeep l → RunsKeep (lane_begun time l begun session bytes)
+begun-runs : (time : ℕ) (l : Lane) (begun : Begun) (session : Session) (bytes : Option (List ℕ))
+    → sender_due session.sender ≡ bytes → IsLast l.params (l.begins ++ begun ∷ []) session.sender
+    → RunsKeep l → RunsKeep (lane_begun time l begun session bytes)
 unfolding lane_begun
 begun-runs time l begun session None e is k = k
 begun-runs time l begun session (Some bytes) e is k =
     let begins : List Begun = l.begins ++ begun ∷ [] in
-    all-append (IsRunMsg l.params begins) l.out (msg (Some begun.place) l.sender_time bytes ∷ []) (runs-more l.params l.begins (begun ∷ []) l.out k)
-    (subst (λ (label : Option ℕ). IsRunMsg l.params begins (msg label l.sender_time bytes)) (ap place_of (last-push l.begins begun)) (due-runs l.params begins session.sender l.sender_time bytes is e), tt)
+    all-append (IsRunMsg l.params begins) l.out (msg (Some begun.place) l.sender_time bytes ∷ [])
+    (runs-more l.params l.begins (begun ∷ []) l.out k) (
+      subst (λ (label : Option ℕ). IsRunMsg l.params begins (msg label l.sender_time bytes))
+          (ap place_of (last-push l.begins begun))
+          (due-runs l.params begins session.sender l.sender_time bytes is e),
+      tt,
+    )
 
-took-runs : (time : ℕ) (l : Lane) (m : Msg) (reading : Result Message WireFault) → RunsKeep l → RunsKeep (lane_took time l m reading)
+took-runs : (time : ℕ) (l : Lane) (m : Msg) (reading : Result Message WireFault) → RunsKeep l
+    → RunsKeep (lane_took time l m reading)
 unfolding lane_took lane_taken
 took-runs time l m (Err fault) k = k
 took-runs time l m (Ok message) k = k
@@ -213,7 +278,8 @@ unfolding lane_answered
 answered-runs l None k = k
 answered-runs l (Some bytes) k = k
 
-pub runs-step : (time : ℕ) (l : Lane) (event : LaneEvent) → Possible time l event → SenderKeeps l → RunsKeep l → RunsKeep (lane_step time l event)
+pub runs-step : (time : ℕ) (l : Lane) (event : LaneEvent) → Possible time l event → SenderKeeps l
+    → RunsKeep l → RunsKeep (lane_step time l event)
 unfolding lane_step lane_begins lane_told
 runs-step time l (Begin place number bits) p s k =
     let begun : Begun = record { time = time; place = place; number = number; bits = bits } in
@@ -221,7 +287,8 @@ runs-step time l (Begin place number bits) p s k =
     begun-runs time l begun session (sender_due session.sender) refl (begins-last l begun s.0 p.2) k
 runs-step time l Send p s k = sends-runs time l l.sender s.1 k
 runs-step time l Answer p s k = answered-runs l (receiver_due l.reception.receiver) k
-runs-step time l (Fragment m) p s k = took-runs time l m (reading_in l.params.frag.mode side.Fragments m.bytes) k
+runs-step time l (Fragment m) p s k =
+    took-runs time l m (reading_in l.params.frag.mode side.Fragments m.bytes) k
 runs-step time l (Ack m) p s k = k
 runs-step time l SenderTick p s k = k
 runs-step time l ReceiverTick p s k = k
@@ -232,7 +299,8 @@ runs-step time l Abort p s k = k
 abbrev pub HeldKeeps : Lane → Type 0
 HeldKeeps l = HoldsOf l.params (last_item l.begins) l.reception.receiver
 
-held-are : (tiles : List (List Bool)) (places : List (Option (List Bool))) → AreOf tiles places → AreHeldOf tiles places
+held-are : (tiles : List (List Bool)) (places : List (Option (List Bool))) → AreOf tiles places
+    → AreHeldOf tiles places
 held-are [] [] k = tt
 held-are [] (None ∷ places) k = held-are [] places k
 held-are [] (Some held ∷ places) k = absurd k
@@ -240,7 +308,8 @@ held-are (tile ∷ tiles) [] k = absurd k
 held-are (tile ∷ tiles) (None ∷ places) k = held-are tiles places k
 held-are (tile ∷ tiles) (Some held ∷ places) k = (k.0, held-are tiles places k.1)
 
-are-held : (tiles : List (List Bool)) (places : List (Option (List Bool))) → AreHeldOf tiles places → AreOf tiles places
+are-held : (tiles : List (List Bool)) (places : List (Option (List Bool))) → AreHeldOf tiles places
+    → AreOf tiles places
 are-held [] [] k = tt
 are-held [] (None ∷ places) k = are-held [] places k
 are-held [] (Some held ∷ places) k = absurd k
@@ -252,58 +321,81 @@ none-held : (tiles : List (List Bool)) → length tiles ≤ 252 → AreHeldOf ti
 unfolding aoe.no_tiles
 none-held tiles few = held-are tiles (replicate 252 None) (are_of-nothing tiles 252 few)
 
-keep-held : (k c : ℕ) (tiles new : List (List Bool)) (places : List (Option (List Bool))) → new ≡ take c (drop k tiles) → AreHeldOf tiles places → AreHeldOf tiles (keep k new places)
+keep-held : (k c : ℕ) (tiles new : List (List Bool)) (places : List (Option (List Bool)))
+    → new ≡ take c (drop k tiles) → AreHeldOf tiles places → AreHeldOf tiles (keep k new places)
 keep-held k c tiles new places e h =
-    subst (λ (list : List (List Bool)). AreHeldOf tiles (keep k list places)) (sym e) (held-are tiles (keep k (take c (drop k tiles)) places) (keep-are_of k c tiles places (are-held tiles places h)))
+    subst (λ (list : List (List Bool)). AreHeldOf tiles (keep k list places)) (sym e)
+    (held-are tiles (keep k (take c (drop k tiles)) places)
+    (keep-are_of k c tiles places (are-held tiles places h)))
 
-regular-holds : (tiles new : List (List Bool)) (place c : ℕ) (r : aoe.AoeReceiverData) → length tiles ≤ 252 → new ≡ take c (drop place tiles) → HoldsIn tiles r → HoldsIn tiles (aoe_step.regular_step place new (aoe_step.begun r)).0
+regular-holds : (tiles new : List (List Bool)) (place c : ℕ) (r : aoe.AoeReceiverData)
+    → length tiles ≤ 252 → new ≡ take c (drop place tiles) → HoldsIn tiles r
+    → HoldsIn tiles (aoe_step.regular_step place new (aoe_step.begun r)).0
 unfolding aoe_step.regular_step aoe_step.begun
-regular-holds tiles new place c (aoe.Empty abort) few e h = keep-held place c tiles new aoe.no_tiles e (none-held tiles few)
-regular-holds tiles new place c (aoe.Gathering places kept answer) few e h = keep-held place c tiles new places e h
+regular-holds tiles new place c (aoe.Empty abort) few e h =
+    keep-held place c tiles new aoe.no_tiles e (none-held tiles few)
+regular-holds tiles new place c (aoe.Gathering places kept answer) few e h =
+    keep-held place c tiles new places e h
 regular-holds tiles new place c (aoe.Finished places last answer) few e h = tt
 
-check-holds : (tiles : List (List Bool)) (places : List (Option (List Bool))) (last : aoe.LastData) (pass : Bool) → AreHeldOf tiles places → HoldsIn tiles (aoe_step.check_step places last pass).0
+check-holds : (tiles : List (List Bool)) (places : List (Option (List Bool))) (last : aoe.LastData)
+    (pass : Bool) → AreHeldOf tiles places → HoldsIn tiles (aoe_step.check_step places last pass).0
 unfolding aoe_step.check_step
 check-holds tiles places last true h = tt
 check-holds tiles places last false h = h
 
-all1-holds : (tiles : List (List Bool)) (last : aoe.LastData) (r : aoe.AoeReceiverData) → length tiles ≤ 252 → HoldsIn tiles r → HoldsIn tiles (aoe_step.all1_step last (aoe_step.begun r)).0
+all1-holds : (tiles : List (List Bool)) (last : aoe.LastData) (r : aoe.AoeReceiverData)
+    → length tiles ≤ 252 → HoldsIn tiles r
+    → HoldsIn tiles (aoe_step.all1_step last (aoe_step.begun r)).0
 unfolding aoe_step.all1_step aoe_step.begun
-all1-holds tiles last (aoe.Empty abort) few h = check-holds tiles aoe.no_tiles last (aoe_step.passes aoe.no_tiles last) (none-held tiles few)
-all1-holds tiles last (aoe.Gathering places kept answer) few h = check-holds tiles places last (aoe_step.passes places last) h
+all1-holds tiles last (aoe.Empty abort) few h =
+    check-holds tiles aoe.no_tiles last (aoe_step.passes aoe.no_tiles last) (none-held tiles few)
+all1-holds tiles last (aoe.Gathering places kept answer) few h =
+    check-holds tiles places last (aoe_step.passes places last) h
 all1-holds tiles last (aoe.Finished places old answer) few h = tt
 
-ack_req-holds : (tiles : List (List Bool)) (r : aoe.AoeReceiverData) → length tiles ≤ 252 → HoldsIn tiles r → HoldsIn tiles (aoe_step.ack_req_step (aoe_step.begun r)).0
+ack_req-holds : (tiles : List (List Bool)) (r : aoe.AoeReceiverData) → length tiles ≤ 252
+    → HoldsIn tiles r → HoldsIn tiles (aoe_step.ack_req_step (aoe_step.begun r)).0
 unfolding aoe_step.ack_req_step aoe_step.begun
 ack_req-holds tiles (aoe.Empty abort) few h = none-held tiles few
 ack_req-holds tiles (aoe.Gathering places None answer) few h = h
-ack_req-holds tiles (aoe.Gathering places (Some last) answer) few h = check-holds tiles places last (aoe_step.passes places last) h
+ack_req-holds tiles (aoe.Gathering places (Some last) answer) few h =
+    check-holds tiles places last (aoe_step.passes places last) h
 ack_req-holds tiles (aoe.Finished places last answer) few h = tt
 
-abort-holds : (tiles : List (List Bool)) (r : aoe.AoeReceiverData) → HoldsIn tiles (aoe_step.abort_step r).0
+abort-holds : (tiles : List (List Bool)) (r : aoe.AoeReceiverData)
+    → HoldsIn tiles (aoe_step.abort_step r).0
 unfolding aoe_step.abort_step
 abort-holds tiles (aoe.Empty abort) = tt
 abort-holds tiles (aoe.Gathering places kept answer) = tt
 abort-holds tiles (aoe.Finished places last answer) = tt
 
-other-holds : (tiles : List (List Bool)) (r : aoe.AoeReceiverData) → HoldsIn tiles r → HoldsIn tiles (aoe_step.other_step r).0
+other-holds : (tiles : List (List Bool)) (r : aoe.AoeReceiverData) → HoldsIn tiles r
+    → HoldsIn tiles (aoe_step.other_step r).0
 unfolding aoe_step.other_step
 other-holds tiles (aoe.Empty abort) h = tt
 other-holds tiles (aoe.Gathering places kept answer) h = h
 other-holds tiles (aoe.Finished places last answer) h = tt
 
-aoe-holds : (tiles : List (List Bool)) (message : Message) (payload : List Bool) (r : aoe.AoeReceiverData) → length tiles ≤ 252 → HasRun tiles message payload → HoldsIn tiles r → HoldsIn tiles (aoe_step.taken message payload r).0
+aoe-holds : (tiles : List (List Bool)) (message : Message) (payload : List Bool)
+    (r : aoe.AoeReceiverData) → length tiles ≤ 252 → HasRun tiles message payload → HoldsIn tiles r
+    → HoldsIn tiles (aoe_step.taken message payload r).0
 unfolding aoe_step.taken
 aoe-holds tiles (form.Regular w fcn from) payload r few run h =
-    regular-holds tiles (aoe.payload_tiles payload) (tile_index (record { w = w; fcn = fcn })) run.0 r few run.1 h
-aoe-holds tiles (form.All1 w rcs from) payload r few run h = all1-holds tiles (aoe_step.last_of w rcs payload) r few h
+    regular-holds tiles (aoe.payload_tiles payload) (tile_index (record { w = w; fcn = fcn })) run.0
+    r few run.1 h
+aoe-holds tiles (form.All1 w rcs from) payload r few run h =
+    all1-holds tiles (aoe_step.last_of w rcs payload) r few h
 aoe-holds tiles (form.AckReq w) payload r few run h = ack_req-holds tiles r few h
 aoe-holds tiles form.SenderAbort payload r few run h = abort-holds tiles r
 aoe-holds tiles (form.Ack w c bitmap) payload r few run h = other-holds tiles r h
 aoe-holds tiles form.ReceiverAbort payload r few run h = other-holds tiles r h
 
 -- a message of the session whose tiles these are
-taken-holds : (m : FragMode) (tiles : List (List Bool)) (message : Message) (payload : List Bool) (r : Receiver) → receiver_mode r ≡ m → (m ≡ mode.AckOnError → (length tiles ≤ 252) × HasRun tiles message payload) → HoldsOnly tiles r → HoldsOnly tiles (receiver_taken message payload r).0
+taken-holds : (m : FragMode) (tiles : List (List Bool)) (message : Message) (payload : List Bool)
+    (r : Receiver) → receiver_mode r ≡ m
+    → (m ≡ mode.AckOnError → (length tiles ≤ 252) × HasRun tiles message payload)
+    → HoldsOnly tiles r → HoldsOnly tiles (receiver_taken message payload r).0
 unfolding receiver_taken
 taken-holds m tiles message payload (NoAck r) e run h = tt
 taken-holds m tiles message payload (AckAlways r) e run h = tt
@@ -311,12 +403,15 @@ taken-holds m tiles message payload (AckOnError r) e run h =
     let both = run (sym e) in aoe-holds tiles message payload r both.0 both.1 h
 
 -- there are places for all tiles of a session
-few-tiles : (params : LaneParams) (bits : List Bool) → AreLaneParams params → CanBegin bits → params.frag.mode ≡ mode.AckOnError → length (session_tiles params bits) ≤ 252
+few-tiles : (params : LaneParams) (bits : List Bool) → AreLaneParams params → CanBegin bits
+    → params.frag.mode ≡ mode.AckOnError → length (session_tiles params bits) ≤ 252
 unfolding regular_tiles
 few-tiles params bits are can e =
     let row : params.frag ≡ params_of mode.AckOnError = are.row ∙ ap params_of e in
     let s : AoeSenderData = sender_step.begun params.frag params.ends.mtu params.ends.last bits in
-    let sound = begun-keeps params.frag params.ends.mtu params.ends.last bits row are.in_range.mtu can.least can.most in
+    let sound =
+    begun-keeps params.frag params.ends.mtu params.ends.last bits row are.in_range.mtu can.least
+    can.most in
     let few = (count-bound s sound).0 in
     omega (arith, length-take (regular_count s) (all_tiles s), few)
 
@@ -324,36 +419,62 @@ some-place : (x y : ℕ) → Some x ≡ Some y → x ≡ y
 some-place x y e = cc
 
 -- what a message of the session that began last has
-last-run : (l : Lane) (m : Msg) (last : Begun) → BeginsKeep l → IsRunMsg l.params l.begins m → IsOfLast l m → last_item l.begins ≡ Some last → l.params.frag.mode ≡ mode.AckOnError → (message : Message) → reading_in l.params.frag.mode side.Fragments m.bytes ≡ Ok message → HasRun (session_tiles l.params last.bits) message (payload_in message (octets m.bytes))
+last-run : (l : Lane) (m : Msg) (last : Begun) → BeginsKeep l → IsRunMsg l.params l.begins m
+    → IsOfLast l m → last_item l.begins ≡ Some last → l.params.frag.mode ≡ mode.AckOnError
+    → (message : Message) → reading_in l.params.frag.mode side.Fragments m.bytes ≡ Ok message
+    → HasRun (session_tiles l.params last.bits) message (payload_in message (octets m.bytes))
 last-run l m last k run fresh e aoe_mode message read =
     let place : Some run.begun.place ≡ Some last.place = sym run.labelled ∙ fresh ∙ ap place_of e in
-    let same : run.begun ≡ last = same-place l.begins run.begun last k.0 run.there (among-last l.begins last e) (some-place run.begun.place last.place place) in
-    subst (λ (begun : Begun). HasRun (session_tiles l.params begun.bits) message (payload_in message (octets m.bytes))) same (run.runs aoe_mode message read)
+    let same : run.begun ≡ last =
+    same-place l.begins run.begun last k.0 run.there (among-last l.begins last e)
+    (some-place run.begun.place last.place place) in
+    subst (λ (begun : Begun). HasRun (session_tiles l.params begun.bits) message
+    (payload_in message (octets m.bytes))) same (run.runs aoe_mode message read)
 
-taken-held : (l : Lane) (m : Msg) (message : Message) (last : Option Begun) → last_item l.begins ≡ last → AreLaneParams l.params → BeginsKeep l → ReceiverKeeps l → IsRunMsg l.params l.begins m → IsOfLast l m → reading_in l.params.frag.mode side.Fragments m.bytes ≡ Ok message →
-    HoldsOf l.params last l.reception.receiver → HoldsOf l.params last (receiver_taken message (payload_in message (octets m.bytes)) l.reception.receiver).0
-taken-held l m message None e are k r run fresh read h = absurd (last-none l.begins run.begun e run.there)
+taken-held : (l : Lane) (m : Msg) (message : Message) (last : Option Begun)
+    → last_item l.begins ≡ last → AreLaneParams l.params → BeginsKeep l → ReceiverKeeps l
+    → IsRunMsg l.params l.begins m → IsOfLast l m
+    → reading_in l.params.frag.mode side.Fragments m.bytes ≡ Ok message →
+    HoldsOf l.params last l.reception.receiver
+    → HoldsOf l.params last
+    (receiver_taken message (payload_in message (octets m.bytes)) l.reception.receiver).0
+taken-held l m message None e are k r run fresh read h =
+    absurd (last-none l.begins run.begun e run.there)
 taken-held l m message (Some last) e are k r run fresh read h =
-    let can : CanBegin last.bits = all-among (λ (begun : Begun). CanBegin begun.bits) l.begins last (among-last l.begins last e) k.1 in
-    taken-holds l.params.frag.mode (session_tiles l.params last.bits) message (payload_in message (octets m.bytes)) l.reception.receiver r.mode_is
-    (λ aoe_mode. (few-tiles l.params last.bits are can aoe_mode, last-run l m last k run fresh e aoe_mode message read)) h
+    let can : CanBegin last.bits =
+    all-among (λ (begun : Begun). CanBegin begun.bits) l.begins last
+    (among-last l.begins last e) k.1 in
+    taken-holds l.params.frag.mode (session_tiles l.params last.bits) message
+    (payload_in message (octets m.bytes)) l.reception.receiver r.mode_is
+    (λ aoe_mode. (
+      few-tiles l.params last.bits are can aoe_mode,
+      last-run l m last k run fresh e aoe_mode
+          message read,
+    )) h
 
-took-held : (time : ℕ) (l : Lane) (m : Msg) (reading : Result Message WireFault) → reading_in l.params.frag.mode side.Fragments m.bytes ≡ reading → AreLaneParams l.params → BeginsKeep l → ReceiverKeeps l → IsRunMsg l.params l.begins m → IsOfLast l m → HeldKeeps l → HeldKeeps (lane_took time l m reading)
+took-held : (time : ℕ) (l : Lane) (m : Msg) (reading : Result Message WireFault)
+    → reading_in l.params.frag.mode side.Fragments m.bytes ≡ reading → AreLaneParams l.params
+    → BeginsKeep l → ReceiverKeeps l → IsRunMsg l.params l.begins m → IsOfLast l m → HeldKeeps l
+    → HeldKeeps (lane_took time l m reading)
 unfolding lane_took lane_taken reception_taken
 took-held time l m (Err fault) e are k r run fresh h = h
-took-held time l m (Ok message) e are k r run fresh h = taken-held l m message (last_item l.begins) refl are k r run fresh e h
+took-held time l m (Ok message) e are k r run fresh h =
+    taken-held l m message (last_item l.begins) refl are k r run fresh e h
 
-sent-held : (time : ℕ) (l : Lane) (session : Session) (bytes : Option (List ℕ)) → HeldKeeps l → HeldKeeps (lane_sent time l session bytes)
+sent-held : (time : ℕ) (l : Lane) (session : Session) (bytes : Option (List ℕ)) → HeldKeeps l
+    → HeldKeeps (lane_sent time l session bytes)
 unfolding lane_sent
 sent-held time l session None h = h
 sent-held time l session (Some bytes) h = h
 
-sends-held : (time : ℕ) (l : Lane) (session : Option Session) → HeldKeeps l → HeldKeeps (lane_sends time l session)
+sends-held : (time : ℕ) (l : Lane) (session : Option Session) → HeldKeeps l
+    → HeldKeeps (lane_sends time l session)
 unfolding lane_sends
 sends-held time l None h = h
 sends-held time l (Some session) h = sent-held time l session (sender_due session.sender) h
 
-empty-holds : (tiles : List (List Bool)) (r : Receiver) → receiver_phase r ≡ phase.Empty → HoldsOnly tiles r
+empty-holds : (tiles : List (List Bool)) (r : Receiver) → receiver_phase r ≡ phase.Empty
+    → HoldsOnly tiles r
 unfolding receiver_phase aoe.receiver_phase
 empty-holds tiles (NoAck r) e = tt
 empty-holds tiles (AckAlways r) e = tt
@@ -361,13 +482,18 @@ empty-holds tiles (AckOnError (aoe.Empty abort)) e = tt
 empty-holds tiles (AckOnError (aoe.Gathering places kept answer)) e = absurd cc
 empty-holds tiles (AckOnError (aoe.Finished places last answer)) e = absurd cc
 
-begun-held : (time : ℕ) (l : Lane) (begun : Begun) (session : Session) (bytes : Option (List ℕ)) → receiver_phase l.reception.receiver ≡ phase.Empty → HeldKeeps l → HeldKeeps (lane_begun time l begun session bytes)
+begun-held : (time : ℕ) (l : Lane) (begun : Begun) (session : Session) (bytes : Option (List ℕ))
+    → receiver_phase l.reception.receiver ≡ phase.Empty → HeldKeeps l
+    → HeldKeeps (lane_begun time l begun session bytes)
 unfolding lane_begun
 begun-held time l begun session None e h = h
 begun-held time l begun session (Some bytes) e h =
-    subst (λ (last : Option Begun). HoldsOf l.params last l.reception.receiver) (sym (last-push l.begins begun)) (empty-holds (session_tiles l.params begun.bits) l.reception.receiver e)
+    subst (λ (last : Option Begun). HoldsOf l.params last l.reception.receiver)
+    (sym (last-push l.begins begun))
+    (empty-holds (session_tiles l.params begun.bits) l.reception.receiver e)
 
-answered-holds : (tiles : List (List Bool)) (r : Receiver) → HoldsOnly tiles r → HoldsOnly tiles (receiver_answered r)
+answered-holds : (tiles : List (List Bool)) (r : Receiver) → HoldsOnly tiles r
+    → HoldsOnly tiles (receiver_answered r)
 unfolding receiver_answered aoe_step.answered
 answered-holds tiles (NoAck r) h = tt
 answered-holds tiles (AckAlways r) h = tt
@@ -375,16 +501,19 @@ answered-holds tiles (AckOnError (aoe.Empty abort)) h = tt
 answered-holds tiles (AckOnError (aoe.Gathering places kept answer)) h = h
 answered-holds tiles (AckOnError (aoe.Finished places last answer)) h = tt
 
-answered-of : (params : LaneParams) (last : Option Begun) (r : Receiver) → HoldsOf params last r → HoldsOf params last (receiver_answered r)
+answered-of : (params : LaneParams) (last : Option Begun) (r : Receiver) → HoldsOf params last r
+    → HoldsOf params last (receiver_answered r)
 answered-of params None r h = answered-phase (λ at. at ≡ phase.Empty) r h
 answered-of params (Some last) r h = answered-holds (session_tiles params last.bits) r h
 
-answered-held : (l : Lane) (bytes : Option (List ℕ)) → HeldKeeps l → HeldKeeps (lane_answered l bytes)
+answered-held : (l : Lane) (bytes : Option (List ℕ)) → HeldKeeps l
+    → HeldKeeps (lane_answered l bytes)
 unfolding lane_answered reception_answered
 answered-held l None h = h
 answered-held l (Some bytes) h = answered-of l.params (last_item l.begins) l.reception.receiver h
 
-idled-holds : (tiles : List (List Bool)) (r : Receiver) → HoldsOnly tiles r → HoldsOnly tiles (receiver_idled r)
+idled-holds : (tiles : List (List Bool)) (r : Receiver) → HoldsOnly tiles r
+    → HoldsOnly tiles (receiver_idled r)
 unfolding receiver_idled aoe_step.idled
 idled-holds tiles (NoAck r) h = tt
 idled-holds tiles (AckAlways r) h = tt
@@ -392,7 +521,8 @@ idled-holds tiles (AckOnError (aoe.Empty abort)) h = tt
 idled-holds tiles (AckOnError (aoe.Gathering places kept answer)) h = tt
 idled-holds tiles (AckOnError (aoe.Finished places last answer)) h = tt
 
-lapsed-holds : (tiles : List (List Bool)) (r : Receiver) → HoldsOnly tiles r → HoldsOnly tiles (receiver_lapsed r)
+lapsed-holds : (tiles : List (List Bool)) (r : Receiver) → HoldsOnly tiles r
+    → HoldsOnly tiles (receiver_lapsed r)
 unfolding receiver_lapsed aoe_step.lapsed
 lapsed-holds tiles (NoAck r) h = tt
 lapsed-holds tiles (AckAlways r) h = tt
@@ -402,21 +532,34 @@ lapsed-holds tiles (AckOnError (aoe.Finished places last answer)) h = tt
 
 outlasts-of : (params : LaneParams) (last : Option Begun) → OutlastsTimers (HoldsOf params last)
 outlasts-of params None =
-    record { idles = idled-phase (λ at. at ≡ phase.Empty) refl; lapses = lapsed-phase (λ at. at ≡ phase.Empty) refl }
+    record {
+      idles = idled-phase (λ at. at ≡ phase.Empty) refl;
+      lapses =
+          lapsed-phase (λ at. at ≡ phase.Empty) refl;
+    }
 outlasts-of params (Some last) =
-    record { idles = idled-holds (session_tiles params last.bits); lapses = lapsed-holds (session_tiles params last.bits) }
+    record {
+      idles = idled-holds (session_tiles params last.bits);
+      lapses =
+          lapsed-holds (session_tiles params last.bits);
+    }
 
-pub held-step : (time : ℕ) (l : Lane) (event : LaneEvent) → Possible time l event → IsFresh time l event → AreLaneParams l.params → BeginsKeep l → ReceiverKeeps l → RunsKeep l → HeldKeeps l → HeldKeeps (lane_step time l event)
+pub held-step : (time : ℕ) (l : Lane) (event : LaneEvent) → Possible time l event
+    → IsFresh time l event → AreLaneParams l.params → BeginsKeep l → ReceiverKeeps l → RunsKeep l
+    → HeldKeeps l → HeldKeeps (lane_step time l event)
 unfolding lane_step lane_begins lane_told
 held-step time l (Begin place number bits) p f are k r runs h =
     let session : Session = lane_session l.params number bits in
-    begun-held time l (record { time = time; place = place; number = number; bits = bits }) session (sender_due session.sender) f h
+    begun-held time l (record { time = time; place = place; number = number; bits = bits }) session
+    (sender_due session.sender) f h
 held-step time l Send p f are k r runs h = sends-held time l l.sender h
 held-step time l Answer p f are k r runs h = answered-held l (receiver_due l.reception.receiver) h
 held-step time l (Fragment m) p f are k r runs h =
-    took-held time l m (reading_in l.params.frag.mode side.Fragments m.bytes) refl are k r (all-among (IsRunMsg l.params l.begins) l.out m p.0 runs) f h
+    took-held time l m (reading_in l.params.frag.mode side.Fragments m.bytes) refl are k r
+    (all-among (IsRunMsg l.params l.begins) l.out m p.0 runs) f h
 held-step time l (Ack m) p f are k r runs h = h
 held-step time l SenderTick p f are k r runs h = h
 held-step time l ReceiverTick p f are k r runs h =
-    ticked-keeps (HoldsOf l.params (last_item l.begins)) (outlasts-of l.params (last_item l.begins)) l.reception h
+    ticked-keeps (HoldsOf l.params (last_item l.begins)) (outlasts-of l.params (last_item l.begins))
+    l.reception h
 held-step time l Abort p f are k r runs h = h

@@ -10,7 +10,8 @@ use Rattle.lanes.specs.Laws.{HoldsTiles}
 use Rattle.lanes.specs.Runs.{lane_after}
 use Rattle.lanes.proofs.CheckedLemmas.{CheckedKeeps, checked-step, checked-begins}
 use Rattle.lanes.proofs.EarnedLemmas.{EarnedKeeps, earned-step, earned-begins, new-phase}
-use Rattle.lanes.proofs.HeldKept.{BeginsKeep, begins-step, RunsKeep, runs-step, HeldKeeps, held-step}
+use Rattle.lanes.proofs.HeldKept.{BeginsKeep, begins-step, RunsKeep, runs-step, HeldKeeps}
+use Rattle.lanes.proofs.HeldKept.{held-step}
 use Rattle.lanes.proofs.ParamsKept.{params-step}
 use Rattle.lanes.proofs.RunLemmas.{IsKept, run-keeps, along-both}
 
@@ -22,7 +23,8 @@ pub record TilesKeep (params : LaneParams) (l : Lane) : Type 0 where
   pub runs : RunsKeep l
   pub held : HeldKeeps l
 
-pub tiles-step : (params : LaneParams) → IsKept (λ time l event. Possible time l event × IsFresh time l event) (TilesKeep params)
+pub tiles-step : (params : LaneParams)
+    → IsKept (λ time l event. Possible time l event × IsFresh time l event) (TilesKeep params)
 tiles-step params time l event p k =
     record {
       params_are = params-step time l event ∙ k.params_are;
@@ -30,7 +32,8 @@ tiles-step params time l event p k =
       earned = earned-step time l event p k.earned;
       begins = begins-step time l event p.0 k.begins;
       runs = runs-step time l event p.0 k.checked.sender k.runs;
-      held = held-step time l event p.0 p.1 k.checked.sender.0 k.begins k.earned.receiver k.runs k.held;
+      held = held-step time l event p.0 p.1 k.checked.sender.0 k.begins k.earned.receiver k.runs
+          k.held;
     }
 
 new-params : (params : LaneParams) → (new_lane params).params ≡ params
@@ -64,7 +67,9 @@ pub holds-tiles : HoldsTiles
 holds-tiles params events are possible fresh =
     let l : Lane = lane_after params events in
     let k : TilesKeep params l =
-    run-keeps (λ time l event. Possible time l event × IsFresh time l event) (TilesKeep params) (tiles-step params) events (new_lane params)
+    run-keeps (λ time l event. Possible time l event × IsFresh time l event) (TilesKeep params)
+    (tiles-step params) events (new_lane params)
     (along-both Possible IsFresh events (new_lane params) possible fresh) (tiles-begin params are)
     in
-    subst (λ (p : LaneParams). HoldsOf p (last_item l.begins) l.reception.receiver) k.params_are k.held
+    subst (λ (p : LaneParams). HoldsOf p (last_item l.begins) l.reception.receiver) k.params_are
+    k.held

@@ -4,15 +4,18 @@ use Rattle.std.specs.List.{AllByRecursion}
 use Rattle.tiles_bitmap.specs.Places.{Among}
 use Rattle.lanes.specs.Lane.{last_item}
 
-pub all-weaken : {A : Type 0} (P Q : A → Type 0) (xs : List A) → ((x : A) → P x → Q x) → AllByRecursion P xs → AllByRecursion Q xs
+pub all-weaken : {A : Type 0} (P Q : A → Type 0) (xs : List A) → ((x : A) → P x → Q x)
+    → AllByRecursion P xs → AllByRecursion Q xs
 all-weaken P Q [] f all = tt
 all-weaken P Q (x ∷ xs) f all = (f x all.0, all-weaken P Q xs f all.1)
 
-pub all-append : {A : Type 0} (P : A → Type 0) (xs ys : List A) → AllByRecursion P xs → AllByRecursion P ys → AllByRecursion P (xs ++ ys)
+pub all-append : {A : Type 0} (P : A → Type 0) (xs ys : List A) → AllByRecursion P xs
+    → AllByRecursion P ys → AllByRecursion P (xs ++ ys)
 all-append P [] ys all more = more
 all-append P (x ∷ xs) ys all more = (all.0, all-append P xs ys all.1 more)
 
-pub all-among : {A : Type 0} (P : A → Type 0) (xs : List A) (x : A) → Among x xs → AllByRecursion P xs → P x
+pub all-among : {A : Type 0} (P : A → Type 0) (xs : List A) (x : A) → Among x xs
+    → AllByRecursion P xs → P x
 all-among P [] x there all = absurd there
 all-among P (y ∷ xs) x (inl e) all = subst P (sym e) all.0
 all-among P (y ∷ xs) x (inr there) all = all-among P xs x there all.1

@@ -1,5 +1,6 @@
 -- The tiles of a packet, one after the other.
-use Rattle.std.specs.Prelude.{ℕ, ◌≡◌, ◌+◌, ◌-◌, ◌%◌, ◌<◌, ◌≤◌, ◌^◌, zero, suc, Bool, false, List, [], ◌∷◌, ◌++◌, length, take, get_or}
+use Rattle.std.specs.Prelude.{ℕ, ◌≡◌, ◌+◌, ◌-◌, ◌%◌, ◌<◌, ◌≤◌, ◌^◌, zero, suc, Bool, false, List}
+use Rattle.std.specs.Prelude.{[], ◌∷◌, ◌++◌, length, take, get_or}
 use Rattle.std.proofs.Common.{arith, refl, sym, ap, subst, ◌∙◌}
 use Rattle.std.proofs.lemmas.List.{append_assoc, append-nil, length-append, length-replicate}
 use Rattle.schc_bits.specs.Bits.{padded, bytes_of}
@@ -19,7 +20,8 @@ use Rattle.tiles_bitmap.proofs.TilesLemmas.{tiles-join}
 
 pub rcs-below : (bits : List Bool) → rcs_of bits < 2 ^ 32
 unfolding rcs_of
-rcs-below bits = let e = check_of-bytes (bytes_of (padded bits)) (AreBytes-bytes_of (padded bits)) in omega arith
+rcs-below bits = let e =
+    check_of-bytes (bytes_of (padded bits)) (AreBytes-bytes_of (padded bits)) in omega arith
 
 pub params-are : (m : FragMode) (params : FragParams) → params ≡ params_of m → IsFragParams params
 params-are mode.NoAck params row = subst IsFragParams (sym row) refl
@@ -27,15 +29,18 @@ params-are mode.AckAlways params row = subst IsFragParams (sym row) refl
 params-are mode.AckOnError params row = subst IsFragParams (sym row) refl
 
 -- one more tile
-pub joined-next : (parts : List (List Bool)) (i : ℕ) → joined (take (suc i) parts) ≡ joined (take i parts) ++ get_or parts i []
+pub joined-next : (parts : List (List Bool)) (i : ℕ)
+    → joined (take (suc i) parts) ≡ joined (take i parts) ++ get_or parts i []
 joined-next [] zero = refl
 joined-next [] (suc i) = refl
 joined-next (part ∷ parts) zero = append-nil part
 joined-next (part ∷ parts) (suc i) =
-    ap (λ (list : List Bool). part ++ list) (joined-next parts i) ∙ sym (append_assoc part (joined (take i parts)) (get_or parts i []))
+    ap (λ (list : List Bool). part ++ list) (joined-next parts i)
+    ∙ sym (append_assoc part (joined (take i parts)) (get_or parts i []))
 
 -- a front is no longer than the whole
-pub joined-front : (parts : List (List Bool)) (i : ℕ) → length (joined (take i parts)) ≤ length (joined parts)
+pub joined-front : (parts : List (List Bool)) (i : ℕ)
+    → length (joined (take i parts)) ≤ length (joined parts)
 joined-front [] zero = omega arith
 joined-front [] (suc i) = omega arith
 joined-front (part ∷ parts) zero = omega arith
@@ -46,7 +51,9 @@ joined-front (part ∷ parts) (suc i) =
     omega (arith, rest, a, b)
 
 -- so there is room for it
-pub packet-bound : (params : FragParams) (mtu : ℕ) (bits : List Bool) (i : ℕ) → IsMtu mtu → length bits ≤ max_session_bits → length (joined (take (suc i) (tiles params mtu bits))) ≤ reassembly_bits
+pub packet-bound : (params : FragParams) (mtu : ℕ) (bits : List Bool) (i : ℕ) → IsMtu mtu
+    → length bits ≤ max_session_bits
+    → length (joined (take (suc i) (tiles params mtu bits))) ≤ reassembly_bits
 packet-bound params mtu bits i range most =
     let front = joined-front (tiles params mtu bits) (suc i) in
     let whole = ap length (tiles-join params mtu bits range) in
@@ -57,7 +64,8 @@ fill-few : (count : ℕ) → length (fill count) ≤ 7
 unfolding fill
 fill-few count = omega (arith, length-replicate ((8 - count % 8) % 8) false)
 
-pub padded-bound : (params : FragParams) (mtu : ℕ) (bits : List Bool) → length bits ≤ max_session_bits → length (padded_packet params mtu bits) ≤ reassembly_bits
+pub padded-bound : (params : FragParams) (mtu : ℕ) (bits : List Bool)
+    → length bits ≤ max_session_bits → length (padded_packet params mtu bits) ≤ reassembly_bits
 unfolding padded_packet
 padded-bound params mtu bits most =
     let count : ℕ = all1_head params + length (last_of (tiles params mtu bits)) in

@@ -12,17 +12,24 @@ pub record OutlastsTimers (P : Receiver → Type 0) : Type 0 where
   pub idles : (r : Receiver) → P r → P (receiver_idled r)
   pub lapses : (r : Receiver) → P r → P (receiver_lapsed r)
 
-fired-keeps : (P : Receiver → Type 0) → OutlastsTimers P → (at : ReceiverPhase) (r : Receiver) → P r → P (receiver_fired at r)
+fired-keeps : (P : Receiver → Type 0) → OutlastsTimers P → (at : ReceiverPhase) (r : Receiver) → P r
+    → P (receiver_fired at r)
 unfolding receiver_fired
 fired-keeps P outlasts Empty r p = p
 fired-keeps P outlasts Gathering r p = outlasts.idles r p
 fired-keeps P outlasts Finished r p = outlasts.lapses r p
 
-ticked_if-keeps : (P : Receiver → Type 0) → OutlastsTimers P → (reception : Reception) (b : Bool) → P reception.receiver → P (if b then reception_fired reception else record { receiver = reception.receiver; left = ticked reception.left }).receiver
+ticked_if-keeps : (P : Receiver → Type 0) → OutlastsTimers P → (reception : Reception) (b : Bool)
+    → P reception.receiver
+    → P (if b then reception_fired reception
+    else record { receiver = reception.receiver; left = ticked reception.left }).receiver
 unfolding reception_fired
-ticked_if-keeps P outlasts reception true p = fired-keeps P outlasts (receiver_phase reception.receiver) reception.receiver p
+ticked_if-keeps P outlasts reception true p =
+    fired-keeps P outlasts (receiver_phase reception.receiver) reception.receiver p
 ticked_if-keeps P outlasts reception false p = p
 
-pub ticked-keeps : (P : Receiver → Type 0) → OutlastsTimers P → (reception : Reception) → P reception.receiver → P (reception_ticked reception).receiver
+pub ticked-keeps : (P : Receiver → Type 0) → OutlastsTimers P → (reception : Reception)
+    → P reception.receiver → P (reception_ticked reception).receiver
 unfolding reception_ticked
-ticked-keeps P outlasts reception p = ticked_if-keeps P outlasts reception (is_due (ticked reception.left)) p
+ticked-keeps P outlasts reception p =
+    ticked_if-keeps P outlasts reception (is_due (ticked reception.left)) p

@@ -29,7 +29,9 @@ no_ack-waits (no_ack_state.Sending i) e = cc
 no_ack-waits no_ack_state.Closing e = cc
 no_ack-waits no_ack_state.Quiet e = cc
 
-aa-waits : (s : aa.AaSenderData) (state : AaSenderState) → s.state ≡ state → aa.phase_in state ≡ phase.Waiting → aa.StandsIn (aa.last_index s) state → WaitsAfter (AckAlways s)
+aa-waits : (s : aa.AaSenderData) (state : AaSenderState) → s.state ≡ state
+    → aa.phase_in state ≡ phase.Waiting → aa.StandsIn (aa.last_index s) state
+    → WaitsAfter (AckAlways s)
 unfolding sender_due aa_step.due_message aa_step.due_in
 aa-waits s (aa_state.Waiting i attempts) e w h =
     record { nothing = rw e refl; attempts = attempts; counted = rw e refl; some = h.1; few = h.2 }
@@ -37,7 +39,9 @@ aa-waits s (aa_state.Sending i ack_req attempts) e w h = absurd cc
 aa-waits s aa_state.Closing e w h = absurd cc
 aa-waits s aa_state.Quiet e w h = absurd cc
 
-aoe-waits : (s : aoe.AoeSenderData) (state : aoe.AoeSenderState) → s.state ≡ state → aoe_step.phase_in state ≡ phase.Waiting → aoe_step.IsStateOf (regular_count s) state → WaitsAfter (AckOnError s)
+aoe-waits : (s : aoe.AoeSenderData) (state : aoe.AoeSenderState) → s.state ≡ state
+    → aoe_step.phase_in state ≡ phase.Waiting → aoe_step.IsStateOf (regular_count s) state
+    → WaitsAfter (AckOnError s)
 unfolding sender_due aoe_step.due_bytes aoe_step.due_message aoe_step.due_in aoe_step.phase_in
 aoe-waits s (aoe.Waiting attempts) e w h =
     record { nothing = rw e refl; attempts = attempts; counted = rw e refl; some = h.0; few = h.1 }
@@ -45,13 +49,15 @@ aoe-waits s (aoe.Sending numbers attempts) e w h = absurd cc
 aoe-waits s aoe.Closing e w h = absurd cc
 aoe-waits s aoe.Quiet e w h = absurd cc
 
-sender-waits : (sender : Sender) → IsSender sender → sender_phase sender ≡ phase.Waiting → WaitsAfter sender
+sender-waits : (sender : Sender) → IsSender sender → sender_phase sender ≡ phase.Waiting
+    → WaitsAfter sender
 unfolding sender_phase aoe_step.sender_phase
 sender-waits (NoAck s) sound e = absurd (no_ack-waits s.state e)
 sender-waits (AckAlways s) sound e = aa-waits s s.state refl e sound.stands
 sender-waits (AckOnError s) sound e = aoe-waits s s.state refl e sound.state
 
-session-waits : (params : LaneParams) (begins : List Begun) (session : Option Session) → SenderIs params begins session → IsWaitingWell session
+session-waits : (params : LaneParams) (begins : List Begun) (session : Option Session)
+    → SenderIs params begins session → IsWaitingWell session
 session-waits params begins None k = tt
 session-waits params begins (Some session) k = λ e. sender-waits session.sender k.of_it.sound e
 

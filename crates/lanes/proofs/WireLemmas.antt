@@ -32,7 +32,8 @@ pub record IsMapped {A B : Type 0} (f : A → B) (o : Option A) (b : B) : Type 0
 some-same : {A : Type 0} (x y : A) → Some x ≡ Some y → x ≡ y
 some-same x y e = cc
 
-pub is-mapped : {A B : Type 0} (f : A → B) (o : Option A) (b : B) → option_map f o ≡ Some b → IsMapped f o b
+pub is-mapped : {A B : Type 0} (f : A → B) (o : Option A) (b : B) → option_map f o ≡ Some b
+    → IsMapped f o b
 is-mapped f None b e = absurd cc
 is-mapped f (Some a) b e = record { it = a; there = refl; image = some-same (f a) b e }
 
@@ -43,31 +44,48 @@ has-fragments mode.AckAlways = tt
 has-fragments mode.AckOnError = tt
 
 -- what is read is spelt
-read-spelt : (params : FragParams) (bytes : List ℕ) (message : Message) → reading_in params.mode side.Fragments bytes ≡ Ok message → Spells params side.Fragments message (payload_in message (octets bytes)) bytes
+read-spelt : (params : FragParams) (bytes : List ℕ) (message : Message)
+    → reading_in params.mode side.Fragments bytes ≡ Ok message
+    → Spells params side.Fragments message (payload_in message (octets bytes)) bytes
 read-spelt params bytes message e =
-    subst (λ (reading : Result Message WireFault). IfOk reading (λ message. SpellsIn params.mode side.Fragments message (payload_in message (octets bytes)) bytes)) e
-    (read-spells params.mode side.Fragments bytes (reading_in params.mode side.Fragments bytes) (has-fragments params.mode) refl)
+    subst (λ (reading : Result Message WireFault). IfOk reading
+    (λ message. SpellsIn params.mode side.Fragments message (payload_in message (octets bytes))
+    bytes)) e
+    (read-spells params.mode side.Fragments bytes (reading_in params.mode side.Fragments bytes)
+    (has-fragments params.mode) refl)
 
 -- an All-1 that is read has this RCS
 abbrev ReadsWith : ℕ → FragParams → List ℕ → Type 0
-ReadsWith value frag bytes = (w rcs from : ℕ) → reading_in frag.mode side.Fragments bytes ≡ Ok (form.All1 w rcs from) → rcs ≡ value
+ReadsWith value frag bytes = (w rcs from : ℕ)
+    → reading_in frag.mode side.Fragments bytes ≡ Ok (form.All1 w rcs from) → rcs ≡ value
 
 -- the RCS of a padded packet
 abbrev packet_rcs : FragParams → ℕ → List Bool → ℕ
 packet_rcs frag mtu bits = rcs_of (padded_packet frag mtu bits)
 
-sender-reads : (sender : Sender) (bytes : List ℕ) → IsSender sender → sender_due sender ≡ Some bytes → ReadsWith (packet_rcs (sender_params sender) (sender_mtu sender) (sender_bits sender)) (sender_params sender) bytes
+sender-reads : (sender : Sender) (bytes : List ℕ) → IsSender sender → sender_due sender ≡ Some bytes
+    → ReadsWith (packet_rcs (sender_params sender) (sender_mtu sender) (sender_bits sender))
+    (sender_params sender) bytes
 unfolding sender_due
 sender-reads (NoAck s) bytes is e w rcs from read =
-    no_ack_law.all1_checks s bytes w rcs from _ is e (read-spelt s.params bytes (form.All1 w rcs from) read)
+    no_ack_law.all1_checks s bytes w rcs from _ is e
+    (read-spelt s.params bytes (form.All1 w rcs from) read)
 sender-reads (AckAlways s) bytes is e w rcs from read =
-    aa_law.all1_checks s bytes w rcs from _ is e (read-spelt s.params bytes (form.All1 w rcs from) read)
+    aa_law.all1_checks s bytes w rcs from _ is e
+    (read-spelt s.params bytes (form.All1 w rcs from) read)
 sender-reads (AckOnError s) bytes is e w rcs from read =
-    aoe_law.all1-checks s bytes w rcs from _ is e (read-spelt s.params bytes (form.All1 w rcs from) read)
+    aoe_law.all1-checks s bytes w rcs from _ is e
+    (read-spelt s.params bytes (form.All1 w rcs from) read)
 
-pub due-right : (params : LaneParams) (bits : List Bool) (sender : Sender) (bytes : List ℕ) → IsSenderOf params bits sender → sender_due sender ≡ Some bytes → (w rcs from : ℕ) → reading_in params.frag.mode side.Fragments bytes ≡ Ok (form.All1 w rcs from) → rcs ≡ rcs_of (padded_of params bits)
+pub due-right : (params : LaneParams) (bits : List Bool) (sender : Sender) (bytes : List ℕ)
+    → IsSenderOf params bits sender → sender_due sender ≡ Some bytes → (w rcs from : ℕ)
+    → reading_in params.frag.mode side.Fragments bytes ≡ Ok (form.All1 w rcs from)
+    → rcs ≡ rcs_of (padded_of params bits)
 due-right params bits sender bytes is e =
-    subst (λ (frag : FragParams). ReadsWith (packet_rcs frag params.ends.mtu bits) frag bytes) is.row
-    (subst (λ (mtu : ℕ). ReadsWith (packet_rcs (sender_params sender) mtu bits) (sender_params sender) bytes) is.mtu
-    (subst (λ (b : List Bool). ReadsWith (packet_rcs (sender_params sender) (sender_mtu sender) b) (sender_params sender) bytes) is.same
+    subst (λ (frag : FragParams). ReadsWith (packet_rcs frag params.ends.mtu bits) frag bytes)
+    is.row
+    (subst (λ (mtu : ℕ). ReadsWith (packet_rcs (sender_params sender) mtu bits)
+    (sender_params sender) bytes) is.mtu
+    (subst (λ (b : List Bool). ReadsWith (packet_rcs (sender_params sender) (sender_mtu sender) b)
+    (sender_params sender) bytes) is.same
     (sender-reads sender bytes is.sound e)))

@@ -7,7 +7,8 @@ use Rattle.frag_wire.specs.Spells.{reading_in}
 use Rattle.frag_wire.specs.declared.message.Message.{Message}
 use Rattle.frag_wire.specs.declared.message.Message.TheVariants as form
 use Rattle.sessions.specs.Receivers.{receiver_phase}
-use Rattle.lanes.specs.Events.{LaneEvent, Begin, Send, Answer, Fragment, Ack, SenderTick, ReceiverTick, Abort}
+use Rattle.lanes.specs.Events.{LaneEvent, Begin, Send, Answer, Fragment, Ack, SenderTick}
+use Rattle.lanes.specs.Events.{ReceiverTick, Abort}
 use Rattle.lanes.specs.Lane.{Lane, LaneParams, Msg, session_place, new_lane}
 use Rattle.lanes.specs.Runs.{AlongRun}
 
@@ -25,7 +26,8 @@ IsFreshAnswer l m (Ok form.SenderAbort) = Unit {0}
 IsFreshAnswer l m (Ok form.ReceiverAbort) = Unit {0}
 IsFreshAnswer l m (Err fault) = Unit {0}
 
--- a message of the sender, or an ACK, is delivered only while no later session than its own has begun; and where a session
+-- a message of the sender, or an ACK, is delivered only while no later session than its own has
+-- begun; and where a session
 -- begins the receiver is empty, so that no answer is due. An abort may be due
 abbrev pub IsFresh : ℕ → Lane → LaneEvent → Type 0
 IsFresh time l (Begin place number bits) = receiver_phase l.reception.receiver ≡ phase.Empty

@@ -1,4 +1,5 @@
--- RFC 8724, section 8.4.3.2, and RFC 9011, section 5.6.2: the tiles that a receiver of ACK-on-Error holds.
+-- RFC 8724, section 8.4.3.2, and RFC 9011, section 5.6.2: the tiles that a receiver of ACK-on-Error
+-- holds.
 use Rattle.std.specs.Prelude.{◌≡◌, Bool, List, [], ◌∷◌, Option, Some, None}
 use Rattle.schc_ids.specs.declared.phases.ReceiverPhase.TheVariants as phase
 use Rattle.aoe_receiver.specs.State.{AoeReceiverData, Empty, Gathering, Finished}
@@ -9,7 +10,8 @@ use Rattle.sessions.specs.declared.receivers.Receiver.{Receiver}
 use Rattle.sessions.specs.declared.receivers.Receiver.TheVariants.{NoAck, AckAlways, AckOnError}
 use Rattle.lanes.specs.Lane.{Begun, LaneParams}
 
--- each tile that is held is the tile with the number of its place, and there is a place for each tile
+-- each tile that is held is the tile with the number of its place, and there is a place for each
+-- tile
 abbrev pub AreHeldOf : List (List Bool) → List (Option (List Bool)) → Type 0
 AreHeldOf [] [] = Unit {0}
 AreHeldOf [] (None ∷ places) = AreHeldOf [] places

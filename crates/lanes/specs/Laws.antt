@@ -12,18 +12,22 @@ use Rattle.lanes.specs.Events.{LaneEvent}
 use Rattle.lanes.specs.Fresh.{AreFresh}
 use Rattle.lanes.specs.Held.{HoldsOf}
 use Rattle.lanes.specs.Honest.{IsRcsOf, IsHonest}
-use Rattle.lanes.specs.Lane.{Begun, Check, Lane, LaneParams, AreLaneParams, Msg, last_item, padded_of}
+use Rattle.lanes.specs.Lane.{Begun, Check, Lane, LaneParams, AreLaneParams, Msg, last_item}
+use Rattle.lanes.specs.Lane.{padded_of}
 use Rattle.lanes.specs.Runs.{ArePossible, lane_after}
 use Rattle.lanes.specs.Waiting.{IsWaitingWell}
 
 -- where the bytes are an All-1, its RCS is that of its session
 abbrev pub IsRightMsg : LaneParams → List Begun → Msg → Type 0
 IsRightMsg params begins m =
-    (w rcs from : ℕ) → reading_in params.frag.mode side.Fragments m.bytes ≡ Ok (form.All1 w rcs from) →
+    (w rcs from : ℕ)
+    → reading_in params.frag.mode side.Fragments m.bytes ≡ Ok (form.All1 w rcs from) →
     IsRcsOf params begins m.label rcs
 
--- the check that passed is one of those made; its session had begun earlier, and the assembly has its RCS
-pub record IsRightJoin (params : LaneParams) (begins : List Begun) (checks : List Check) (join : Check) : Type 0 where
+-- the check that passed is one of those made; its session had begun earlier, and the assembly has
+-- its RCS
+pub record IsRightJoin (params : LaneParams) (begins : List Begun) (checks : List Check)
+    (join : Check) : Type 0 where
   pub made : Among join checks
   pub session : IsRcsOf params begins join.session (rcs_of join.assembly)
   pub earlier : session.begun.time < join.time
@@ -35,7 +39,8 @@ pub record IsChecked (l : Lane) : Type 0 where
 
 abbrev pub Checked : Type 0
 Checked =
-    (params : LaneParams) (events : List (ℕ × LaneEvent)) → AreLaneParams params → ArePossible params events →
+    (params : LaneParams) (events : List (ℕ × LaneEvent)) → AreLaneParams params
+    → ArePossible params events →
     IsChecked (lane_after params events)
 
 -- the assembly is the padded packet of its session, which had begun earlier
@@ -48,31 +53,40 @@ pub record IsPadded (l : Lane) (join : Check) : Type 0 where
 
 abbrev pub JoinsPadded : Type 0
 JoinsPadded =
-    (params : LaneParams) (events : List (ℕ × LaneEvent)) → AreLaneParams params → ArePossible params events →
-    IsHonest (lane_after params events) → AllByRecursion (IsPadded (lane_after params events)) (lane_after params events).joins
+    (params : LaneParams) (events : List (ℕ × LaneEvent)) → AreLaneParams params
+    → ArePossible params events →
+    IsHonest (lane_after params events)
+    → AllByRecursion (IsPadded (lane_after params events)) (lane_after params events).joins
 
 -- in a fresh run each session that is reported delivered was joined earlier
 abbrev pub Earned : Type 0
 Earned =
-    (params : LaneParams) (events : List (ℕ × LaneEvent)) → ArePossible params events → AreFresh params events →
+    (params : LaneParams) (events : List (ℕ × LaneEvent)) → ArePossible params events
+    → AreFresh params events →
     AllByRecursion (IsEarned (lane_after params events).joins) (lane_after params events).reports
 
 -- and where no wrong assembly has a session's RCS, what was joined is its padded packet
 abbrev pub Arrived : Type 0
 Arrived =
-    (params : LaneParams) (events : List (ℕ × LaneEvent)) → AreLaneParams params → ArePossible params events →
+    (params : LaneParams) (events : List (ℕ × LaneEvent)) → AreLaneParams params
+    → ArePossible params events →
     AreFresh params events → IsHonest (lane_after params events) →
-    AllByRecursion (λ report. report.kind ≡ Delivered → IsArrived (lane_after params events) report) (lane_after params events).reports
+    AllByRecursion (λ report. report.kind ≡ Delivered → IsArrived (lane_after params events) report)
+    (lane_after params events).reports
 
 -- a sender that waits for an answer has nothing to send, and has made one request to eight
 abbrev pub WaitsWell : Type 0
 WaitsWell =
-    (params : LaneParams) (events : List (ℕ × LaneEvent)) → AreLaneParams params → ArePossible params events →
+    (params : LaneParams) (events : List (ℕ × LaneEvent)) → AreLaneParams params
+    → ArePossible params events →
     IsWaitingWell (lane_after params events).sender
 
--- in a fresh run the tiles that a receiver of ACK-on-Error holds while it gathers are tiles of the session that began last
+-- in a fresh run the tiles that a receiver of ACK-on-Error holds while it gathers are tiles of the
+-- session that began last
 abbrev pub HoldsTiles : Type 0
 HoldsTiles =
-    (params : LaneParams) (events : List (ℕ × LaneEvent)) → AreLaneParams params → ArePossible params events →
+    (params : LaneParams) (events : List (ℕ × LaneEvent)) → AreLaneParams params
+    → ArePossible params events →
     AreFresh params events →
-    HoldsOf params (last_item (lane_after params events).begins) (lane_after params events).reception.receiver
+    HoldsOf params (last_item (lane_after params events).begins)
+    (lane_after params events).reception.receiver

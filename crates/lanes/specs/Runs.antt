@@ -25,7 +25,8 @@ Along Q time l (event ∷ events) = Q time l event × Along Q time (lane_step ti
 
 abbrev pub AlongRun : (ℕ → Lane → LaneEvent → Type 0) → Lane → List (ℕ × LaneEvent) → Type 0
 AlongRun Q l [] = Unit {0}
-AlongRun Q l (event ∷ events) = Q event.0 l event.1 × AlongRun Q (lane_step event.0 l event.1) events
+AlongRun Q l (event ∷ events) = Q event.0 l event.1
+    × AlongRun Q (lane_step event.0 l event.1) events
 
 -- the events can come to pass on a lane on which no session has begun
 abbrev pub ArePossible : LaneParams → List (ℕ × LaneEvent) → Type 0

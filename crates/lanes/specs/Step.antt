@@ -1,5 +1,6 @@
 -- What an event does to a lane: the steps of the sessions of one key, and what is noted of them.
-use Rattle.std.specs.Prelude.{ℕ, ◌+◌, Bool, if◌then◌else◌, List, [], ◌∷◌, ◌++◌, Option, Some, None, Result, Ok, Err}
+use Rattle.std.specs.Prelude.{ℕ, ◌+◌, Bool, if◌then◌else◌, List, [], ◌∷◌, ◌++◌, Option, Some, None}
+use Rattle.std.specs.Prelude.{Result, Ok, Err}
 use Rattle.schc_bits.specs.Bits.{octets}
 use Rattle.schc_ids.specs.declared.ends.TimerTicks.{TimerTicks}
 use Rattle.schc_ids.specs.declared.faults.WireFault.{WireFault}
@@ -12,10 +13,13 @@ use Rattle.frag_wire.specs.Spells.{reading_in}
 use Rattle.frag_wire.specs.declared.message.Message.{Message}
 use Rattle.frag_wire.specs.declared.message.Message.TheVariants as form
 use Rattle.sessions.specs.Receivers.{receiver_checked, receiver_previewed, receiver_due}
-use Rattle.sessions.specs.Reception.{Reception, is_remnant, reception_taken, reception_answered, reception_ticked}
+use Rattle.sessions.specs.Reception.{Reception, is_remnant, reception_taken, reception_answered}
+use Rattle.sessions.specs.Reception.{reception_ticked}
 use Rattle.sessions.specs.Senders.{sender_begun, sender_due, sender_phase, sender_sent}
-use Rattle.sessions.specs.Session.{Session, sent_kind, session_sent, session_heard, heard_kind, session_aborted, session_ticked}
-use Rattle.lanes.specs.Events.{LaneEvent, Begin, Send, Answer, Fragment, Ack, SenderTick, ReceiverTick, Abort}
+use Rattle.sessions.specs.Session.{Session, sent_kind, session_sent, session_heard, heard_kind}
+use Rattle.sessions.specs.Session.{session_aborted, session_ticked}
+use Rattle.lanes.specs.Events.{LaneEvent, Begin, Send, Answer, Fragment, Ack, SenderTick}
+use Rattle.lanes.specs.Events.{ReceiverTick, Abort}
 use Rattle.lanes.specs.Lane.{LaneParams, Msg, Begun, Check, LaneReport, Lane, session_place}
 
 abbrev pub msg : Option ℕ → ℕ → List ℕ → Msg
@@ -38,7 +42,8 @@ lane_session params number bits = record {
 
 -- a session of No-ACK ends with its last message
 unfoldable pub kind_sent : Session → Option ReportKind
-kind_sent session = sent_kind (sender_phase session.sender) (sender_phase (sender_sent session.sender))
+kind_sent session =
+    sent_kind (sender_phase session.sender) (sender_phase (sender_sent session.sender))
 
 -- the session gives the message that is due
 unfoldable pub lane_sent : ℕ → Lane → Session → Option (List ℕ) → Lane
@@ -67,7 +72,8 @@ unfoldable pub lane_begins : ℕ → Lane → Begun → Session → Lane
 lane_begins time l begun session = lane_begun time l begun session (sender_due session.sender)
 
 -- an answer that was read; where no session is under way nothing comes of it
-unfoldable pub heard_by : TimerTicks → Option Session → Result Message WireFault → Option Session × Option ReportKind
+unfoldable pub heard_by : TimerTicks → Option Session → Result Message WireFault → Option Session
+    × Option ReportKind
 heard_by ticks None reading = (None, None)
 heard_by ticks (Some session) (Err fault) = (Some session, None)
 heard_by ticks (Some session) (Ok message) =
@@ -94,7 +100,8 @@ lane_told time l step =
 unfoldable pub label_after : Note → Option ℕ → Option ℕ → Option ℕ
 label_after meaning label before = if is_remnant meaning then before else label
 
--- the session of the All-1 whose RCS is compared: the message's own, else that of the one that is kept
+-- the session of the All-1 whose RCS is compared: the message's own, else that of the one that is
+-- kept
 unfoldable pub checked_label : Message → Option ℕ → Option ℕ → Option ℕ
 checked_label (form.All1 w rcs from) label kept = label
 checked_label (form.Regular w fcn from) label kept = kept
@@ -111,7 +118,8 @@ kept_after (Some assembly) label before = label
 -- a check, where one is made
 unfoldable pub checks_of : ℕ → Option ℕ → Option (List Bool) → List Check
 checks_of time session None = []
-checks_of time session (Some assembly) = record { time = time; assembly = assembly; session = session } ∷ []
+checks_of time session (Some assembly) =
+    record { time = time; assembly = assembly; session = session } ∷ []
 
 -- a message with its payload is taken
 unfoldable pub lane_taken : ℕ → Lane → Option ℕ → Message → List Bool → Lane
@@ -124,31 +132,41 @@ lane_taken time l label message payload =
       label = label_after t.1 label l.label;
       kept_label = kept_after made session l.kept_label;
       checks = l.checks ++ checks_of time session made;
-      joins = l.joins ++ checks_of time session (receiver_previewed message payload l.reception.receiver);
+      joins = l.joins ++ checks_of time session
+          (receiver_previewed message payload l.reception.receiver);
     }
 
 unfoldable pub lane_took : ℕ → Lane → Msg → Result Message WireFault → Lane
 lane_took time l m (Err fault) = l
-lane_took time l m (Ok message) = lane_taken time l m.label message (payload_in message (octets m.bytes))
+lane_took time l m (Ok message) =
+    lane_taken time l m.label message (payload_in message (octets m.bytes))
 
 -- the receiver gives the answer that is due
 unfoldable pub lane_answered : Lane → Option (List ℕ) → Lane
 lane_answered l None = l
 lane_answered l (Some bytes) =
-    record l { reception = reception_answered l.reception; back = l.back ++ msg l.label l.receiver_time bytes ∷ [] }
+    record l {
+      reception = reception_answered l.reception;
+      back =
+          l.back ++ msg l.label l.receiver_time bytes ∷ [];
+    }
 
 -- The event comes to pass at this time.
 
 unfoldable pub lane_step : ℕ → Lane → LaneEvent → Lane
 lane_step time l (Begin place number bits) =
-    lane_begins time l (record { time = time; place = place; number = number; bits = bits }) (lane_session l.params number bits)
+    lane_begins time l (record { time = time; place = place; number = number; bits = bits })
+    (lane_session l.params number bits)
 lane_step time l Send = lane_sends time l l.sender
 lane_step time l Answer = lane_answered l (receiver_due l.reception.receiver)
-lane_step time l (Fragment m) = lane_took time l m (reading_in l.params.frag.mode side.Fragments m.bytes)
+lane_step time l (Fragment m) =
+    lane_took time l m (reading_in l.params.frag.mode side.Fragments m.bytes)
 lane_step time l (Ack m) =
-    lane_told time l (heard_by l.params.ends.ticks l.sender (reading_in l.params.frag.mode side.Answers m.bytes))
+    lane_told time l
+    (heard_by l.params.ends.ticks l.sender (reading_in l.params.frag.mode side.Answers m.bytes))
 lane_step time l SenderTick =
-    lane_told time (record l { sender_time = l.sender_time + 1 }) (ticked_by l.params.ends.ticks l.sender)
+    lane_told time (record l { sender_time = l.sender_time + 1 })
+    (ticked_by l.params.ends.ticks l.sender)
 lane_step time l ReceiverTick =
     record l { reception = reception_ticked l.reception; receiver_time = l.receiver_time + 1 }
 lane_step time l Abort = lane_told time l (aborted_by l.params.ends.ticks l.sender)

@@ -38,4 +38,5 @@ pub record WaitsAfter (sender : Sender) : Type 0 where
 
 abbrev pub IsWaitingWell : Option Session → Type 0
 IsWaitingWell None = Unit {0}
-IsWaitingWell (Some session) = sender_phase session.sender ≡ phase.Waiting → WaitsAfter session.sender
+IsWaitingWell (Some session) = sender_phase session.sender ≡ phase.Waiting
+    → WaitsAfter session.sender

@@ -1,5 +1,6 @@
 -- What the ports of LoRaWAN mean to an end, and by which port it sends fragments.
-use Rattle.std.specs.Prelude.{ℕ, ◌≡◌, ◌==◌, nat_lt, Bool, true, false, not, ◌&&◌, if◌then◌else◌, Option, Some, None}
+use Rattle.std.specs.Prelude.{ℕ, ◌≡◌, ◌==◌, nat_lt, Bool, true, false, not, ◌&&◌, if◌then◌else◌}
+use Rattle.std.specs.Prelude.{Option, Some, None}
 use Rattle.schc_ids.specs.declared.ends.Role.{Role}
 use Rattle.schc_ids.specs.declared.ends.Role.TheVariants.{Device, Gateway}
 use Rattle.schc_ids.specs.declared.ends.Direction.{Direction}
@@ -17,10 +18,13 @@ use Rattle.schc_ids.specs.Limits.{
   first_reserved_port,
 }
 use Rattle.lorawan_profile.specs.declared.ports.PortMeaning.{PortMeaning}
-use Rattle.lorawan_profile.specs.declared.ports.PortMeaning.TheVariants.{Fragments, Answers, Whole, Unknown}
+use Rattle.lorawan_profile.specs.declared.ports.PortMeaning.TheVariants.{Fragments, Answers, Whole}
+use Rattle.lorawan_profile.specs.declared.ports.PortMeaning.TheVariants.{Unknown}
 
--- the fragments that go by a port, which is their RuleID: 20 is that of fragments up and 21 that of fragments down
--- (RFC 9011, section 5.2), with the modes of sections 5.6.2 and 5.6.3 there. 222 and 223 are this project's own, for
+-- the fragments that go by a port, which is their RuleID: 20 is that of fragments up and 21 that of
+-- fragments down
+-- (RFC 9011, section 5.2), with the modes of sections 5.6.2 and 5.6.3 there. 222 and 223 are this
+-- project's own, for
 -- fragments that aren't answered
 unfoldable pub fragments_by : ℕ → Option (Direction × FragMode)
 fragments_by port =
@@ -30,7 +34,8 @@ fragments_by port =
     else if port == no_ack_down_port then Some (way.Down, NoAck)
     else None
 
--- the answers to fragments of a mode go by the same port (RFC 9011, section 5.2); in No-ACK there are none (RFC 8724,
+-- the answers to fragments of a mode go by the same port (RFC 9011, section 5.2); in No-ACK there
+-- are none (RFC 8724,
 -- section 8.4.1)
 abbrev pub answers_in : FragMode → PortMeaning
 answers_in NoAck = Unknown
@@ -47,7 +52,8 @@ meaning_between Gateway way.Down mode = answers_in mode
 abbrev pub is_application_port : ℕ → Bool
 is_application_port port = not (port == 0) && nat_lt port first_reserved_port
 
--- by each other port that an application may use comes a whole packet, of which the port is the RuleID (RFC 9011,
+-- by each other port that an application may use comes a whole packet, of which the port is the
+-- RuleID (RFC 9011,
 -- section 5.1)
 abbrev pub meaning_from : Role → ℕ → Option (Direction × FragMode) → PortMeaning
 meaning_from role port (Some fragments) = meaning_between role fragments.0 fragments.1
@@ -57,7 +63,8 @@ meaning_from role port None = if is_application_port port then Whole else Unknow
 unfoldable pub meaning_of : Role → ℕ → PortMeaning
 meaning_of role port = meaning_from role port (fragments_by port)
 
--- the port by which an end sends fragments, and their parameters: a device sends up and a gateway down, with answers or
+-- the port by which an end sends fragments, and their parameters: a device sends up and a gateway
+-- down, with answers or
 -- without
 abbrev pub sending_of : Role → Bool → ℕ × FragParams
 sending_of Device true = (ack_on_error_port, params_of AckOnError)
@@ -65,7 +72,8 @@ sending_of Device false = (no_ack_up_port, params_of NoAck)
 sending_of Gateway true = (ack_always_port, params_of AckAlways)
 sending_of Gateway false = (no_ack_down_port, params_of NoAck)
 
--- what comes to the end by the port by which it sends: the answers to its fragments, if they are answered
+-- what comes to the end by the port by which it sends: the answers to its fragments, if they are
+-- answered
 abbrev pub answers_of : Bool → FragParams → PortMeaning
 answers_of true params = Answers params
 answers_of false params = Unknown
@@ -79,12 +87,14 @@ HasParams Unknown = Unit {0}
 
 -- what comes by the port is what the other end sends by it, or answers what this end sends by it
 abbrev pub IsSent : Role → ℕ → PortMeaning → Type 0
-IsSent role port (Fragments params) = (acked : Bool) × (sending_of (other_role role) acked ≡ (port, params))
+IsSent role port (Fragments params) = (acked : Bool)
+    × (sending_of (other_role role) acked ≡ (port, params))
 IsSent role port (Answers params) = sending_of role true ≡ (port, params)
 IsSent role port Whole = Unit {0}
 IsSent role port Unknown = Unit {0}
 
--- a port by which whole packets come: all but 0, those of fragments and answers, and those from 224 on
+-- a port by which whole packets come: all but 0, those of fragments and answers, and those from 224
+-- on
 unfoldable pub is_whole : ℕ → Bool
 is_whole port =
     is_application_port port

@@ -1,5 +1,6 @@
 -- The test of a rule as it is walked: the entries are counted, and each is looked at once.
-use Rattle.std.specs.Prelude.{ℕ, ◌==◌, Bool, false, ◌&&◌, ◌||◌, nat_le, if◌then◌else◌, List, [], ◌∷◌, length, Option, Some, None, slice_get}
+use Rattle.std.specs.Prelude.{ℕ, ◌==◌, Bool, false, ◌&&◌, ◌||◌, nat_le, if◌then◌else◌, List, []}
+use Rattle.std.specs.Prelude.{◌∷◌, length, Option, Some, None, slice_get}
 use Rattle.std.specs.List.{list_any, list_all, enumerate_from}
 use Rattle.std.specs.Option.{option_map_or}
 use Rattle.schc_ids.specs.declared.ends.Direction.{Direction}
@@ -17,7 +18,8 @@ abbrev pub found_value : List FieldValue → FieldAt → Option (List Bool)
 found_value [] at = None
 found_value (f ∷ fields) at = if same_field at f.at then Some f.value else found_value fields at
 
--- the value of the field at this place, where that is of the name and position; or else of the first field that is
+-- the value of the field at this place, where that is of the name and position; or else of the
+-- first field that is
 abbrev pub value_or : Option FieldValue → List FieldValue → FieldAt → Option (List Bool)
 value_or None fields at = found_value fields at
 value_or (Some f) fields at = if same_field at f.at then Some f.value else found_value fields at
@@ -27,16 +29,21 @@ value_near fields near at = value_or (slice_get fields near) fields at
 
 -- the entry has a value, and agrees with it. It is looked for first at this place
 abbrev pub entry_holds : Iids → Computed → List FieldValue → ℕ → EntryData → Bool
-entry_holds iids computed fields near e = option_map_or (agrees iids computed e) (value_near fields near (field_of e)) false
+entry_holds iids computed fields near e =
+    option_map_or (agrees iids computed e) (value_near fields near (field_of e)) false
 
 -- the field has an entry that agrees with its value
 abbrev pub field_holds : Iids → Computed → List EntryData → FieldValue → Bool
-field_holds iids computed entries f = list_any (λ e. same_field (field_of e) f.at && agrees iids computed e f.value) entries
+field_holds iids computed entries f =
+    list_any (λ e. same_field (field_of e) f.at && agrees iids computed e f.value) entries
 
--- no fewer fields than entries that are used in the direction, and each of these holds. Where there are as many fields,
+-- no fewer fields than entries that are used in the direction, and each of these holds. Where there
+-- are as many fields,
 -- each is then the field of one entry; where there are more, each has to hold
 abbrev pub walk_holds : RuleData → Iids → Direction → List FieldValue → Computed → Bool
 walk_holds rule iids direction fields computed =
     nat_le (length (covered rule direction)) (length fields)
-    && list_all (λ p. entry_holds iids computed fields p.0 p.1) (enumerate_from 0 (covered rule direction))
-    && ((length fields == length (covered rule direction)) || list_all (field_holds iids computed (covered rule direction)) fields)
+    && list_all (λ p. entry_holds iids computed fields p.0 p.1)
+    (enumerate_from 0 (covered rule direction))
+    && ((length fields == length (covered rule direction)) || list_all
+    (field_holds iids computed (covered rule direction)) fields)

@@ -1,12 +1,14 @@
 -- Each step of a sender leads to a sender of the same session.
-use Rattle.std.specs.Prelude.{ℕ, ◌≡◌, ◌↔◌, ◌⊎◌, ◌≤◌, ◌==◌, suc, Bool, true, false, List, Option, Some, None, if◌then◌else◌, option_map}
+use Rattle.std.specs.Prelude.{ℕ, ◌≡◌, ◌↔◌, ◌⊎◌, ◌≤◌, ◌==◌, suc, Bool, true, false, List, Option}
+use Rattle.std.specs.Prelude.{Some, None, if◌then◌else◌, option_map}
 use Rattle.std.proofs.Common.{arith, inl, inr, refl}
 use Rattle.std.proofs.lemmas.Bool.{eqb-false}
 use Rattle.schc_ids.specs.declared.phases.SenderPhase.{SenderPhase}
 use Rattle.schc_ids.specs.declared.phases.SenderPhase.TheVariants as phase
 use Rattle.no_ack.specs.Laws.{BeginsOne, StaysOne, KeepsSession, NoneDue}
 use Rattle.no_ack.specs.SenderState.{NoAckSenderData, StandsIn, phase_in, last_index}
-use Rattle.no_ack.specs.SenderSteps.{bytes_due, due_in, due_message, sent_in, sent, aborted_in, aborted}
+use Rattle.no_ack.specs.SenderSteps.{bytes_due, due_in, due_message, sent_in, sent, aborted_in}
+use Rattle.no_ack.specs.SenderSteps.{aborted}
 use Rattle.no_ack.specs.declared.states.NoAckSenderState.{NoAckSenderState}
 use Rattle.no_ack.specs.declared.states.NoAckSenderState.TheVariants.{Sending, Closing, Quiet}
 use Rattle.no_ack.proofs.SenderLemmas.{moved}
@@ -15,11 +17,13 @@ pub begins_one : BeginsOne
 begins_one params mtu last bits row range least most =
     record { row = row; in_range = range; least = least; most = most; stands = omega arith }
 
-next-stands : (last i : ℕ) (is_last : Bool) → i == last ≡ is_last → i ≤ last → StandsIn last (if is_last then Quiet else Sending (suc i))
+next-stands : (last i : ℕ) (is_last : Bool) → i == last ≡ is_last → i ≤ last
+    → StandsIn last (if is_last then Quiet else Sending (suc i))
 next-stands last i true e h = tt
 next-stands last i false e h = let other = eqb-false i last e in omega (arith, h, other)
 
-sent-stands : (last : ℕ) (state : NoAckSenderState) → StandsIn last state → StandsIn last (sent_in last state)
+sent-stands : (last : ℕ) (state : NoAckSenderState) → StandsIn last state
+    → StandsIn last (sent_in last state)
 unfolding sent_in
 sent-stands last (Sending i) h = next-stands last i (i == last) refl h
 sent-stands last Closing h = tt
@@ -35,14 +39,19 @@ pub stays_one : StaysOne
 unfolding sent aborted
 stays_one sender is =
     record {
-      sends = moved sender (sent_in (last_index sender) sender.state) is (sent-stands (last_index sender) sender.state is.stands);
-      aborts = moved sender (aborted_in sender.state).0 is (aborted-stands (last_index sender) sender.state);
+      sends = moved sender (sent_in (last_index sender) sender.state) is
+          (sent-stands (last_index sender) sender.state is.stands);
+      aborts =
+          moved sender (aborted_in sender.state).0 is
+          (aborted-stands (last_index sender) sender.state);
     }
 
 pub keeps_session : KeepsSession
 unfolding sent aborted
-keeps_session sender =
-    (record { params = refl; mtu = refl; bits = refl }, record { params = refl; mtu = refl; bits = refl })
+keeps_session sender = (
+  record { params = refl; mtu = refl; bits = refl },
+  record { params = refl; mtu = refl; bits = refl },
+)
 
 abbrev IsStill : SenderPhase → Type 0
 IsStill at = (at ≡ phase.Waiting) ⊎ (at ≡ phase.Quiet)
@@ -55,7 +64,8 @@ closing-moves : IsStill phase.Closing → ⊥
 closing-moves (inl e) = cc
 closing-moves (inr e) = cc
 
-none-in : (sender : NoAckSenderData) (state : NoAckSenderState) → (option_map (bytes_due sender.params) (due_in sender state) ≡ None) ↔ IsStill (phase_in state)
+none-in : (sender : NoAckSenderData) (state : NoAckSenderState)
+    → (option_map (bytes_due sender.params) (due_in sender state) ≡ None) ↔ IsStill (phase_in state)
 unfolding due_in
 none-in sender (Sending i) = (λ h. absurd (cc h), λ h. absurd (sending-moves h))
 none-in sender Closing = (λ h. absurd (cc h), λ h. absurd (closing-moves h))

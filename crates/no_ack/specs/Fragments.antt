@@ -15,7 +15,8 @@ payload_of message bytes = payload_in message (octets bytes)
 
 -- the bytes are this message of a sender
 abbrev pub IsFragment : Message → List ℕ → Type 0
-IsFragment message bytes = Spells (params_of mode.NoAck) side.Fragments message (payload_of message bytes) bytes
+IsFragment message bytes =
+    Spells (params_of mode.NoAck) side.Fragments message (payload_of message bytes) bytes
 
 -- the bits of the bytes from this one on
 abbrev pub bits_from : ℕ → List ℕ → List Bool

@@ -1,7 +1,8 @@
 -- RFC 8724, section 8.4.1.2: what a receiver in the No-ACK mode does with each message.
 use Rattle.std.specs.Prelude.{ℕ, Bool, true, false, if◌then◌else◌, List, ◌++◌, Option, Some, None}
 use Rattle.schc_ids.specs.declared.notes.Note.{Note}
-use Rattle.schc_ids.specs.declared.notes.Note.TheVariants.{Stored, Joined, CheckFailed, Remnant, PeerAborted, Overflow}
+use Rattle.schc_ids.specs.declared.notes.Note.TheVariants.{Stored, Joined, CheckFailed, Remnant}
+use Rattle.schc_ids.specs.declared.notes.Note.TheVariants.{PeerAborted, Overflow}
 use Rattle.frag_wire.specs.declared.message.Message.{Message}
 use Rattle.frag_wire.specs.declared.message.Message.TheVariants as form
 use Rattle.reassembly.specs.Joining.{has_room, passes}
@@ -21,14 +22,16 @@ unfoldable pub ended : Bool → NoAckReceiverData × Note
 ended true = (Empty, Joined)
 ended false = (Empty, CheckFailed)
 
--- with the last tile: the check is made over what is kept and this tile, where there is room, and then nothing is kept
+-- with the last tile: the check is made over what is kept and this tile, where there is room, and
+-- then nothing is kept
 unfoldable pub joined_last : List Bool → List Bool → ℕ → Bool → NoAckReceiverData × Note
 joined_last kept tile rcs true = ended (passes kept tile rcs)
 joined_last kept tile rcs false = (Empty, Overflow)
 
 -- the last tile came, with the check of the packet
 unfoldable pub last_step : NoAckReceiverData → List Bool → ℕ → NoAckReceiverData × Note
-last_step receiver tile rcs = joined_last (kept_by receiver) tile rcs (has_room (kept_by receiver) tile)
+last_step receiver tile rcs =
+    joined_last (kept_by receiver) tile rcs (has_room (kept_by receiver) tile)
 
 -- the sender gave up: nothing is kept
 unfoldable pub given_up : NoAckReceiverData → NoAckReceiverData × Note
@@ -51,7 +54,8 @@ assembled kept tile false = None
 
 -- the assembly over which the message makes the check, where it makes one
 unfoldable pub checked : Message → List Bool → NoAckReceiverData → Option (List Bool)
-checked (form.All1 w rcs from) tile receiver = assembled (kept_by receiver) tile (has_room (kept_by receiver) tile)
+checked (form.All1 w rcs from) tile receiver =
+    assembled (kept_by receiver) tile (has_room (kept_by receiver) tile)
 checked (form.Regular w fcn from) payload receiver = None
 checked (form.Ack w c bitmap) payload receiver = None
 checked (form.AckReq w) payload receiver = None
@@ -80,7 +84,8 @@ last_preview receiver tile rcs =
 
 -- the assembly, exactly where the message makes a check that passes
 unfoldable pub previewed : Message → List Bool → NoAckReceiverData → Option (List Bool)
-previewed message payload receiver = if completes message payload receiver then checked message payload receiver else None
+previewed message payload receiver =
+    if completes message payload receiver then checked message payload receiver else None
 
 -- the inactivity timer is due: what is kept is given up
 unfoldable pub idled : NoAckReceiverData → NoAckReceiverData

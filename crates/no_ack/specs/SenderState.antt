@@ -18,7 +18,8 @@ pub record NoAckSenderData : Type 0 where
   pub bits : List Bool
   pub state : NoAckSenderState
 
--- a session that begins: its first tile is due. Where the last tile goes has no meaning in this mode
+-- a session that begins: its first tile is due. Where the last tile goes has no meaning in this
+-- mode
 abbrev pub begun : FragParams → ℕ → LastTile → List Bool → NoAckSenderData
 begun params mtu last bits = record { params = params; mtu = mtu; bits = bits; state = Sending 0 }
 

@@ -1,5 +1,7 @@
--- RFC 8724, section 8.4.1.1: what a sender in the No-ACK mode sends. Nothing is answered, and nothing is sent again.
-use Rattle.std.specs.Prelude.{ℕ, suc, ◌==◌, Bool, true, false, if◌then◌else◌, List, [], Option, Some, None, option_map}
+-- RFC 8724, section 8.4.1.1: what a sender in the No-ACK mode sends. Nothing is answered, and
+-- nothing is sent again.
+use Rattle.std.specs.Prelude.{ℕ, suc, ◌==◌, Bool, true, false, if◌then◌else◌, List, [], Option}
+use Rattle.std.specs.Prelude.{Some, None, option_map}
 use Rattle.schc_ids.specs.declared.fragments.FragParams.{FragParams}
 use Rattle.schc_ids.specs.declared.notes.Heard.{Heard}
 use Rattle.schc_ids.specs.declared.notes.Heard.TheVariants.{Nothing, Aborted}
@@ -12,9 +14,11 @@ use Rattle.no_ack.specs.SenderState.{NoAckSenderData, tile_at, last_index}
 use Rattle.no_ack.specs.declared.states.NoAckSenderState.{NoAckSenderState}
 use Rattle.no_ack.specs.declared.states.NoAckSenderState.TheVariants.{Sending, Closing, Quiet}
 
--- the fragment of the tile i: an All-1 with the check of the padded packet for the last one, else a Regular
+-- the fragment of the tile i: an All-1 with the check of the padded packet for the last one, else a
+-- Regular
 unfoldable pub fragment_of : NoAckSenderData → ℕ → Bool → Message × List Bool
-fragment_of sender i true = (form.All1 0 (rcs_of (padded_packet sender.params sender.mtu sender.bits)) 33, tile_at sender i)
+fragment_of sender i true =
+    (form.All1 0 (rcs_of (padded_packet sender.params sender.mtu sender.bits)) 33, tile_at sender i)
 fragment_of sender i false = (form.Regular 0 0 1, tile_at sender i)
 
 unfoldable pub due_in : NoAckSenderData → NoAckSenderState → Option (Message × List Bool)

@@ -1,5 +1,6 @@
 -- The source and the sink in memory.
-use Rattle.std.specs.Prelude.{ℕ, ◌-◌, min, Bool, ◌&&◌, ◌==◌, if◌then◌else◌, List, ◌++◌, length, take, drop, nat_lt, Some}
+use Rattle.std.specs.Prelude.{ℕ, ◌-◌, min, Bool, ◌&&◌, ◌==◌, if◌then◌else◌, List, ◌++◌, length}
+use Rattle.std.specs.Prelude.{take, drop, nat_lt, Some}
 use Rattle.std.specs.List.{list_any}
 use Rattle.outside.specs.Counting.{next_count}
 use Rattle.outside.specs.States.{SourceState, SinkState}
@@ -8,14 +9,16 @@ use Rattle.outside.specs.declared.sources.Read.TheVariants as read
 use Rattle.outside.specs.declared.sinks.Wrote.{Wrote}
 use Rattle.outside.specs.declared.sinks.Wrote.TheVariants as wrote
 
--- a source: the bytes left, the numbers of the reads that fail, and how many reads and faults there were
+-- a source: the bytes left, the numbers of the reads that fail, and how many reads and faults there
+-- were
 pub record SourceData : Type 0 where
   pub left : List ℕ
   pub failing : List ℕ
   pub reads : ℕ
   pub faults : ℕ
 
--- a sink: the bytes written, how many it can hold, the numbers of the writes that fail, and how many
+-- a sink: the bytes written, how many it can hold, the numbers of the writes that fail, and how
+-- many
 -- writes and faults there were
 pub record SinkData : Type 0 where
   pub written : List ℕ
@@ -37,7 +40,8 @@ fails failing number = list_any (λ n. n == number) failing
 
 -- n bytes come from the source, which is at its end where none does
 abbrev pub gives : SourceData → ℕ → Read × SourceData
-gives source n = if n == 0 then (read.End, source) else (read.Got n, record source { left = drop n source.left })
+gives source n =
+    if n == 0 then (read.End, source) else (read.Got n, record source { left = drop n source.left })
 
 -- one read into room for `size` bytes
 abbrev pub read_step : SourceData → ℕ → Read × SourceData

@@ -1,5 +1,6 @@
 -- What a read, and the reading of a whole source, does to what is left, where the source tells it.
-use Rattle.std.specs.Prelude.{◌≡◌, ℕ, ◌+◌, ◌<◌, ◌≤◌, List, length, take, Option, None, Some, Result, Ok, Err, Vec}
+use Rattle.std.specs.Prelude.{◌≡◌, ℕ, ◌+◌, ◌<◌, ◌≤◌, List, length, take, Option, None, Some, Result}
+use Rattle.std.specs.Prelude.{Ok, Err, Vec}
 use Rattle.std.specs.Io.KnownBytes.{Consumes, Keeps, IsAtEnd}
 use Rattle.outside.specs.Counting.{Rose}
 use Rattle.outside.specs.States.{SourceState}
@@ -32,18 +33,24 @@ HasMore None limit = Unit {0}
 HasMore (Some left) limit = limit < length left
 
 -- at `Ok` the bytes are all that the source had, at most `limit`, and nothing is left; at `TooLong`
--- it had more than `limit`, and `limit + 1` of them were read; at `Fault` and `Memory` some were read
-abbrev pub ReadsAll : {A : Type 0} → Result (Vec ℕ A) ReadAllFault → ℕ → SourceState → SourceState → Type 0
+-- it had more than `limit`, and `limit + 1` of them were read; at `Fault` and `Memory` some were
+-- read
+abbrev pub ReadsAll : {A : Type 0} → Result (Vec ℕ A) ReadAllFault → ℕ → SourceState → SourceState
+    → Type 0
 ReadsAll (Ok bytes) limit old new =
     (length bytes.items ≤ limit)
     × IsContent old.left bytes.items
     × Consumes old.left new.left bytes.items
     × IsAtEnd new.left
-ReadsAll (Err Fault) limit old new = (front : List ℕ) × (length front ≤ limit) × Consumes old.left new.left front
+ReadsAll (Err Fault) limit old new = (front : List ℕ) × (length front ≤ limit)
+    × Consumes old.left new.left front
 ReadsAll (Err TooLong) limit old new =
-    HasMore old.left limit × ((front : List ℕ) × (length front ≡ limit + 1) × Consumes old.left new.left front)
-ReadsAll (Err Memory) limit old new = (front : List ℕ) × (length front ≤ limit + 1) × Consumes old.left new.left front
+    HasMore old.left limit
+    × ((front : List ℕ) × (length front ≡ limit + 1) × Consumes old.left new.left front)
+ReadsAll (Err Memory) limit old new = (front : List ℕ) × (length front ≤ limit + 1)
+    × Consumes old.left new.left front
 
 -- at `Fault` the count of faults rose
-abbrev pub CountsFailedReading : {T : Type 0} → Result T ReadAllFault → SourceState → SourceState → Type 0
+abbrev pub CountsFailedReading : {T : Type 0} → Result T ReadAllFault → SourceState → SourceState
+    → Type 0
 CountsFailedReading result old new = result ≡ Err Fault → Rose old.faults new.faults

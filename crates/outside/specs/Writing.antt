@@ -19,4 +19,5 @@ CountsFailedWrite Failed piece old new = Rose old.faults new.faults
 -- the text was appended, or, at a fault, the first bytes of it and not all
 abbrev pub WritesAll : {E : Type 0} → Result Unit E → List ℕ → SinkState → SinkState → Type 0
 WritesAll (Ok done) text old new = Appends old.written new.written text
-WritesAll (Err fault) text old new = (n : ℕ) × (n < length text) × Appends old.written new.written (take n text)
+WritesAll (Err fault) text old new = (n : ℕ) × (n < length text)
+    × Appends old.written new.written (take n text)

@@ -3,7 +3,8 @@ use Rattle.std.specs.Prelude.{◌≡◌, Bool, true, false, List, [], ◌∷◌,
 use Rattle.std.proofs.Common.{refl}
 use Rattle.rule_model.specs.First.{first_held}
 
-pub append-none : {A : Type 0} (these those : List (Bool × A)) → first_held (these ++ those) ≡ None → (first_held these ≡ None) × (first_held those ≡ None)
+pub append-none : {A : Type 0} (these those : List (Bool × A)) → first_held (these ++ those) ≡ None
+    → (first_held these ≡ None) × (first_held those ≡ None)
 append-none [] those h = (refl, h)
 append-none ((true, x) ∷ these) those h = absurd (cc)
 append-none ((false, x) ∷ these) those h = append-none these those h

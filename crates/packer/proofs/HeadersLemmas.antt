@@ -1,5 +1,6 @@
 -- The bytes after the headers of a packet.
-use Rattle.std.specs.Prelude.{ℕ, ◌≡◌, ◌-◌, ◌<◌, ◌≤◌, ◌⊎◌, true, false, List, length, drop, Option, Some, None}
+use Rattle.std.specs.Prelude.{ℕ, ◌≡◌, ◌-◌, ◌<◌, ◌≤◌, ◌⊎◌, true, false, List, length, drop, Option}
+use Rattle.std.specs.Prelude.{Some, None}
 use Rattle.std.specs.Option.{option_map}
 use Rattle.std.proofs.Common.{arith, ap, refl, sym, inl, inr}
 use Rattle.std.proofs.lemmas.List.{length-drop}
@@ -26,27 +27,43 @@ pub size_after-below : (packet : List ℕ) → IsIpv6 packet → length packet -
 size_after-below packet p = omega (arith, number_in-below 32 16 packet, p.payload_length, p.header)
 
 -- a packet of a stack whose headers stand at fixed places
-pub fields-packet : (of : Stack) (direction : Direction) (packet : List ℕ) (fields : List FieldValue) (from : ℕ) → IsWithoutCoap of → FieldsOf of direction packet fields from → PacketOf of direction packet fields from
+pub fields-packet : (of : Stack) (direction : Direction) (packet : List ℕ)
+    (fields : List FieldValue) (from : ℕ) → IsWithoutCoap of
+    → FieldsOf of direction packet fields from → PacketOf of direction packet fields from
 fields-packet stack.Ip direction packet fields from h p = p
 fields-packet stack.IpUdp direction packet fields from h p = p
 fields-packet stack.IpUdpCoap direction packet fields from h p = absurd h
 
 -- a packet that is refused
-is_refused : (of : Stack) (direction : Direction) (packet : List ℕ) (fault : SplitFault) → refusal of packet ≡ Some fault → split_headers of direction packet ≡ None
+is_refused : (of : Stack) (direction : Direction) (packet : List ℕ) (fault : SplitFault)
+    → refusal of packet ≡ Some fault → split_headers of direction packet ≡ None
 is_refused of direction packet fault e = rw e refl
 
-pub refused-split_of : (of : Stack) (direction : Direction) (packet : List ℕ) (fault : SplitFault) → IsWithoutCoap of → refusal of packet ≡ Some fault → split_of of direction packet ≡ None
+pub refused-split_of : (of : Stack) (direction : Direction) (packet : List ℕ) (fault : SplitFault)
+    → IsWithoutCoap of → refusal of packet ≡ Some fault → split_of of direction packet ≡ None
 unfolding split_of
 refused-split_of stack.Ip direction packet fault h e = is_refused stack.Ip direction packet fault e
-refused-split_of stack.IpUdp direction packet fault h e = is_refused stack.IpUdp direction packet fault e
+refused-split_of stack.IpUdp direction packet fault h e =
+    is_refused stack.IpUdp direction packet fault e
 refused-split_of stack.IpUdpCoap direction packet fault h e = absurd h
 
 -- the payload begins within the packet
-message-within : (bytes : List ℕ) (fields : List FieldValue) (from : ℕ) → MessageOf bytes fields from → from ≤ length bytes
+message-within : (bytes : List ℕ) (fields : List FieldValue) (from : ℕ)
+    → MessageOf bytes fields from → from ≤ length bytes
 message-within bytes fields from m = omega (arith, m.its_payload)
 
-pub from-within : (of : Stack) (direction : Direction) (packet : List ℕ) (fields : List FieldValue) (from : ℕ) → PacketOf of direction packet fields from → from ≤ length packet
-from-within stack.Ip direction packet fields from p = rw p.its_payload (header_size-is_packet stack.Ip packet p.is_packet)
-from-within stack.IpUdp direction packet fields from p = rw p.its_payload (header_size-is_packet stack.IpUdp packet p.is_packet)
+pub from-within : (of : Stack) (direction : Direction) (packet : List ℕ) (fields : List FieldValue)
+    (from : ℕ) → PacketOf of direction packet fields from → from ≤ length packet
+from-within stack.Ip direction packet fields from p =
+    rw p.its_payload (header_size-is_packet stack.Ip packet p.is_packet)
+from-within stack.IpUdp direction packet fields from p =
+    rw p.its_payload (header_size-is_packet stack.IpUdp packet p.is_packet)
 from-within stack.IpUdpCoap direction packet fields from p =
-    omega (arith, p.its_payload, message-within (drop 48 packet) p.message_fields p.message_from p.its_message, length-drop 48 packet, p.is_udp.header)
+    omega (
+      arith,
+      p.its_payload,
+      message-within (drop 48 packet) p.message_fields p.message_from
+          p.its_message,
+      length-drop 48 packet,
+      p.is_udp.header,
+    )

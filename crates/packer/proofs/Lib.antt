@@ -1,4 +1,5 @@
--- The folders have what is about writing, rebuilding, CoAP and reading. What stands beside them is used by several, or by crates above.
+-- The folders have what is about writing, rebuilding, CoAP and reading. What stands beside them is
+-- used by several, or by crates above.
 pub mod PacketOrderLemmas
 pub mod FirstPartsLemmas
 pub mod HeaderFieldsLemmas

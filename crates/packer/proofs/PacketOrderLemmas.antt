@@ -8,12 +8,17 @@ use Rattle.decompress.proofs.LawLemmas.{all_from, all_at}
 use Rattle.ip_udp_fields.specs.Layout.{IsWithoutCoap, fields_in_packet_order}
 use Rattle.ip_udp_fields.proofs.SpanLemmas.{to_packet_order, from_packet_order}
 
-pub to-order : (of : Stack) (direction : Direction) (name : FieldName) → IsWithoutCoap of → Contains (fields_of_stack of) name → Contains (fields_in_packet_order of direction) name
+pub to-order : (of : Stack) (direction : Direction) (name : FieldName) → IsWithoutCoap of
+    → Contains (fields_of_stack of) name → Contains (fields_in_packet_order of direction) name
 to-order of direction name h among =
     all_at (Contains (fields_in_packet_order of direction)) (fields_of_stack of)
-    (from_packet_order (Contains (fields_in_packet_order of direction)) of direction h (all_from (Contains (fields_in_packet_order of direction)) (fields_in_packet_order of direction) (λ n c. c))) name among
+    (from_packet_order (Contains (fields_in_packet_order of direction)) of direction h
+    (all_from (Contains (fields_in_packet_order of direction))
+    (fields_in_packet_order of direction) (λ n c. c))) name among
 
-pub from-order : (of : Stack) (direction : Direction) (name : FieldName) → IsWithoutCoap of → Contains (fields_in_packet_order of direction) name → Contains (fields_of_stack of) name
+pub from-order : (of : Stack) (direction : Direction) (name : FieldName) → IsWithoutCoap of
+    → Contains (fields_in_packet_order of direction) name → Contains (fields_of_stack of) name
 from-order of direction name h among =
     all_at (Contains (fields_of_stack of)) (fields_in_packet_order of direction)
-    (to_packet_order (Contains (fields_of_stack of)) of direction h (all_from (Contains (fields_of_stack of)) (fields_of_stack of) (λ n c. c))) name among
+    (to_packet_order (Contains (fields_of_stack of)) of direction h
+    (all_from (Contains (fields_of_stack of)) (fields_of_stack of) (λ n c. c))) name among

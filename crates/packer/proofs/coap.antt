@@ -1,4 +1,5 @@
--- Packets with CoAP: the fields of a message in packet order, and what is written and read of a packet that holds one.
+-- Packets with CoAP: the fields of a message in packet order, and what is written and read of a
+-- packet that holds one.
 pub mod AscendLemmas
 pub mod OrderedLemmas
 pub mod MessageFieldsLemmas

@@ -1,4 +1,5 @@
--- What is read: it is what the bits say, what was written comes back, and the other end restores one packet.
+-- What is read: it is what the bits say, what was written comes back, and the other end restores
+-- one packet.
 pub mod KeptLemmas
 pub mod RestoredLemmas
 pub mod OneRestoredLemmas

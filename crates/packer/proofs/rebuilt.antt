@@ -1,4 +1,5 @@
--- Packets rebuilt from restored fields: which conditions fail, the headers and lengths, the checksum, and the packet that they make.
+-- Packets rebuilt from restored fields: which conditions fail, the headers and lengths, the
+-- checksum, and the packet that they make.
 pub mod PlainLemmas
 pub mod FilledLemmas
 pub mod JoinedLemmas

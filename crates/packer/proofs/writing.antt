@@ -1,4 +1,5 @@
--- What is written: each rule that a packet may match is tried, the shortest SCHC packet comes first, and it has so many bits.
+-- What is written: each rule that a packet may match is tried, the shortest SCHC packet comes
+-- first, and it has so many bits.
 pub mod FirstLemmas
 pub mod ShorterLemmas
 pub mod SizedFieldsLemmas

@@ -48,7 +48,8 @@ IsUnread _ = Unit {0}
 -- why bits are no packet
 unfoldable pub unread_text : UnpackFault → List ℕ
 unread_text (unread.UnknownRule id) = codes "unknown-rule " ++ decimal id
-unread_text (unread.BadResidue entry why) = codes "bad-residue " ++ (decimal entry ++ (codes " " ++ residue_text why))
+unread_text (unread.BadResidue entry why) =
+    codes "bad-residue " ++ (decimal entry ++ (codes " " ++ residue_text why))
 unread_text (unread.BadPacket at) = codes "bad-packet " ++ place_text at
 unread_text unread.Memory = []
 
@@ -57,4 +58,6 @@ unfoldable pub finding_text : Finding → List ℕ
 finding_text f =
     codes "refused "
     ++ (decimal f.number
-    ++ (codes " " ++ (finding_name f.number ++ (codes " rule " ++ (decimal f.id ++ (codes " entry " ++ decimal f.entry))))))
+    ++ (codes
+    " " ++ (finding_name
+    f.number ++ (codes " rule " ++ (decimal f.id ++ (codes " entry " ++ decimal f.entry))))))

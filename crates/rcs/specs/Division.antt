@@ -1,7 +1,8 @@
 -- RFC 8724, section 8.2.3: the reassembly check sequence is the CRC-32 of IEEE 802.3, the remainder
 -- of a division of polynomials over the two numbers 0 and 1. A polynomial is the list of its
 -- coefficients, the highest power first.
-use Rattle.std.specs.Prelude.{ℕ, ◌+◌, ◌*◌, ◌/◌, ◌%◌, ◌==◌, zero, suc, Bool, true, false, not, if◌then◌else◌, List, [], ◌∷◌, ◌++◌, length, map, drop, replicate}
+use Rattle.std.specs.Prelude.{ℕ, ◌+◌, ◌*◌, ◌/◌, ◌%◌, ◌==◌, zero, suc, Bool, true, false, not}
+use Rattle.std.specs.Prelude.{if◌then◌else◌, List, [], ◌∷◌, ◌++◌, length, map, drop, replicate}
 use Rattle.schc_bits.specs.Bits.{padded, bytes_of}
 
 -- the power is one of the powers

@@ -1,6 +1,7 @@
 -- The division's remainder as a word of 32 bits, its lowest bit the highest coefficient, and what a
 -- register holds.
-use Rattle.std.specs.Prelude.{ℕ, ◌≡◌, ◌-◌, ◌*◌, ◌/◌, ◌%◌, ◌^◌, ◌==◌, zero, suc, Bool, if◌then◌else◌, List, [], ◌∷◌, ◌++◌, length, drop}
+use Rattle.std.specs.Prelude.{ℕ, ◌≡◌, ◌-◌, ◌*◌, ◌/◌, ◌%◌, ◌^◌, ◌==◌, zero, suc, Bool, if◌then◌else◌}
+use Rattle.std.specs.Prelude.{List, [], ◌∷◌, ◌++◌, length, drop}
 use Rattle.std.specs.Int.Bits.{bit_xor}
 use Rattle.schc_bits.specs.Bits.{number_bits, padded, bytes_of}
 
@@ -44,7 +45,12 @@ sum_of word count part = record { word = word; begun = number_bits count part }
 
 -- what a register holds after the bits
 unfoldable pub added : Sum → List Bool → Sum
-added sum bits = record { word = word_after sum.word (bytes_of (sum.begun ++ bits)); begun = begun_of (sum.begun ++ bits) }
+added sum bits =
+    record {
+      word = word_after sum.word (bytes_of (sum.begun ++ bits));
+      begun =
+          begun_of (sum.begun ++ bits);
+    }
 
 -- the register holds the sum of the bits
 unfoldable pub Sums : Sum → List Bool → Type 0

@@ -11,6 +11,7 @@ reassembly_bits = 8 * reassembly_bytes
 unfoldable pub has_room : List Bool → List Bool → Bool
 has_room kept part = nat_le (length kept + length part) reassembly_bits
 
--- RFC 8724, section 8.2.3: the reassembly check sequence of what is kept and of the last part is the one that was sent
+-- RFC 8724, section 8.2.3: the reassembly check sequence of what is kept and of the last part is
+-- the one that was sent
 unfoldable pub passes : List Bool → List Bool → ℕ → Bool
 passes kept part rcs = rcs_of (kept ++ part) == rcs

@@ -1,5 +1,7 @@
--- Packets that are written and read by the last edition of a work file, as `pack` and `unpack` print it.
-use Rattle.std.specs.Prelude.{ℕ, ◌+◌, not, nat_lt, if◌then◌else◌, List, [], ◌∷◌, ◌++◌, length, Option, Some, None, Result, Ok, Err, codes}
+-- Packets that are written and read by the last edition of a work file, as `pack` and `unpack`
+-- print it.
+use Rattle.std.specs.Prelude.{ℕ, ◌+◌, not, nat_lt, if◌then◌else◌, List, [], ◌∷◌, ◌++◌, length}
+use Rattle.std.specs.Prelude.{Option, Some, None, Result, Ok, Err, codes}
 use Rattle.std.specs.Fmt.{decimal}
 use Rattle.std.specs.Option.{option_map}
 use Rattle.schc_bits.specs.Bits.{octets, padded, bytes_of}
@@ -24,7 +26,8 @@ use Rattle.rule_commands.specs.declared.working.Task.{Task}
 use Rattle.rule_commands.specs.declared.working.Task.TheVariants.{Pack, Unpack}
 
 -- goes on with the next edition, if there is no finding
-abbrev pub then_last : Result EditionData Finding → (EditionData → Result EditionData Finding) → Result EditionData Finding
+abbrev pub then_last : Result EditionData Finding → (EditionData → Result EditionData Finding)
+    → Result EditionData Finding
 then_last (Err finding) later = Err finding
 then_last (Ok next) later = later next
 
@@ -33,10 +36,14 @@ abbrev pub last_from : EditionData → List RawEditionData → Result EditionDat
 last_from last [] = Ok last
 last_from last (raw ∷ later) = then_last (published last raw) (λ next. last_from next later)
 
--- how a packet is written: the RuleID, the number of bits of its SCHC packet, and the SCHC packet, padded to whole bytes
+-- how a packet is written: the RuleID, the number of bits of its SCHC packet, and the SCHC packet,
+-- padded to whole bytes
 unfoldable pub written_text : Packed → List ℕ
 written_text w =
-    codes "rule " ++ (decimal w.rule_id ++ (codes " bits " ++ (decimal (length w.bits) ++ (codes " " ++ bytes_text (bytes_of (padded w.bits))))))
+    codes "rule " ++ (decimal
+    w.rule_id ++ (codes
+    " bits " ++ (decimal
+    (length w.bits) ++ (codes " " ++ bytes_text (bytes_of (padded w.bits))))))
 
 -- the outcome of `pack` for a packet
 unfoldable pub pack_outcome : EditionData → Iids → Direction → List ℕ → List ℕ
@@ -47,7 +54,8 @@ pack_outcome edition iids way packet =
 
 -- what was read
 unfoldable pub read_text : Result UnpackedData UnpackFault → List ℕ
-read_text (Ok read) = codes "rule " ++ (decimal read.rule_id ++ (codes " " ++ bytes_text read.packet))
+read_text (Ok read) =
+    codes "rule " ++ (decimal read.rule_id ++ (codes " " ++ bytes_text read.packet))
 read_text (Err fault) = codes "refused " ++ unread_text fault
 
 -- the outcome of `unpack` for a packet
@@ -61,17 +69,20 @@ packet_line place outcome = decimal place ++ (codes " " ++ (outcome ++ codes "\n
 -- the lines of these packets
 abbrev pub packet_lines : (List ℕ → List ℕ) → ℕ → List (List ℕ) → List ℕ
 packet_lines outcome place [] = []
-packet_lines outcome place (packet ∷ later) = packet_line place (outcome packet) ++ packet_lines outcome (place + 1) later
+packet_lines outcome place (packet ∷ later) =
+    packet_line place (outcome packet) ++ packet_lines outcome (place + 1) later
 
 -- the outcome that a task has for a packet of a work file, by this edition
 unfoldable pub outcome_of : Task → WorkData → EditionData → List ℕ → List ℕ
 outcome_of Pack work edition packet = pack_outcome edition work.iids work.direction packet
 outcome_of Unpack work edition packet = unpack_outcome edition work.iids work.direction packet
 
--- the output of a task for a work file, by the file's last edition: nothing where an edition has a finding
+-- the output of a task for a work file, by the file's last edition: nothing where an edition has a
+-- finding
 abbrev pub worked_with : Task → WorkData → Result EditionData Finding → OutputData
 worked_with task work (Err finding) = record { text = []; refused = Some finding }
-worked_with task work (Ok edition) = record { text = packet_lines (outcome_of task work edition) 1 work.packets; refused = None }
+worked_with task work (Ok edition) =
+    record { text = packet_lines (outcome_of task work edition) 1 work.packets; refused = None }
 
 abbrev pub worked : Task → WorkData → OutputData
 worked task work = worked_with task work (last_from first_edition work.editions)

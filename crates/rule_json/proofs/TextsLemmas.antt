@@ -10,7 +10,8 @@ pub json_of-utf8 : (text : List ℕ) → IsUtf8 text → json_of text ≡ read t
 unfolding json_of
 json_of-utf8 text u = rw (is_utf8-from_IsUtf8 text u)
 
-none_unless : {A : Type 0} (b : Bool) (o : Option A) → (b ≡ true → o ≡ None) → (if b then o else None) ≡ None
+none_unless : {A : Type 0} (b : Bool) (o : Option A) → (b ≡ true → o ≡ None)
+    → (if b then o else None) ≡ None
 none_unless true o h = h refl
 none_unless false o h = refl
 

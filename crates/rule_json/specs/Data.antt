@@ -10,7 +10,8 @@ pub record ContextData : Type 0 where
   pub devices : List DeviceLine
   pub editions : List RawEditionData
 
--- work: the editions that are published, and packets of one direction with the identifiers of their two ends
+-- work: the editions that are published, and packets of one direction with the identifiers of their
+-- two ends
 pub record WorkData : Type 0 where
   pub editions : List RawEditionData
   pub iids : Iids

@@ -1,5 +1,7 @@
--- The layout of a device: its number, its interface identifiers, and the members that may be absent.
-use Rattle.std.specs.Prelude.{ℕ, ◌+◌, ◌^◌, Bool, nat_le, if◌then◌else◌, List, Option, Some, None, codes}
+-- The layout of a device: its number, its interface identifiers, and the members that may be
+-- absent.
+use Rattle.std.specs.Prelude.{ℕ, ◌+◌, ◌^◌, Bool, nat_le, if◌then◌else◌, List, Option, Some, None}
+use Rattle.std.specs.Prelude.{codes}
 use Rattle.serde_json.specs.Data.{Data, Items, no_items, item}
 use Rattle.serde_json.specs.Find.{get, as_array}
 use Rattle.schc_ids.specs.declared.ends.EndParams.{EndParams}
@@ -39,7 +41,8 @@ timers_from _ = None
 unfoldable pub timers_list : Data → Option TimerTicks
 timers_list d = as_array d >>= timers_from
 
--- the members of a device that may be absent, and then are as it is where nothing is said: `mtu`, `mode`, `last`, `timers`
+-- the members of a device that may be absent, and then are as it is where nothing is said: `mtu`,
+-- `mode`, `last`, `timers`
 unfoldable pub mtu_in : ℕ → Data → Option ℕ
 mtu_in default d = default_or default mtu_number (get (codes "mtu") d)
 

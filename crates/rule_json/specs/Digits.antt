@@ -1,5 +1,7 @@
 -- Targets, identifiers and packets as hex digits.
-use Rattle.std.specs.Prelude.{ℕ, ◌+◌, ◌-◌, ◌/◌, ◌%◌, ◌^◌, ◌==◌, zero, suc, nat_le, nat_lt, Bool, false, if◌then◌else◌, List, [], ◌∷◌, ◌++◌, length, take, drop, replicate, slice_index, Option, Some, None, Result, Ok, Err}
+use Rattle.std.specs.Prelude.{ℕ, ◌+◌, ◌-◌, ◌/◌, ◌%◌, ◌^◌, ◌==◌, zero, suc, nat_le, nat_lt, Bool}
+use Rattle.std.specs.Prelude.{false, if◌then◌else◌, List, [], ◌∷◌, ◌++◌, length, take, drop}
+use Rattle.std.specs.Prelude.{replicate, slice_index, Option, Some, None, Result, Ok, Err}
 use Rattle.std.specs.Option.{option_map}
 use Rattle.std.specs.Int.{from_be_bytes}
 use mir.Syntax.{w64}
@@ -12,16 +14,19 @@ use Rattle.rule_json.specs.Values.{◌>>=◌}
 -- four bits for each hex digit, in either case; none where a character is no digit
 unfoldable pub digit_bits : List ℕ → Option (List Bool)
 digit_bits [] = Some []
-digit_bits (c ∷ cs) = hex_digit_value c >>= λ digit. digit_bits cs >>= λ bits. Some (number_bits 4 digit ++ bits)
+digit_bits (c ∷ cs) =
+    hex_digit_value c >>= λ digit. digit_bits cs >>= λ bits. Some (number_bits 4 digit ++ bits)
 
 -- the number in `width` bits, where it is below 2 ^ width
 abbrev pub fitting : ℕ → ℕ → Option (List Bool)
 fitting width number = if nat_lt number (2 ^ width) then Some (number_bits width number) else None
 
--- the target of a field of `width` bits: a number below 2 ^ width, in no more digits than `width` bits have
+-- the target of a field of `width` bits: a number below 2 ^ width, in no more digits than `width`
+-- bits have
 unfoldable pub fixed_target : ℕ → List ℕ → Option (List Bool)
 fixed_target width text =
-    if nat_le (length text) ((width + 3) / 4) then (digit_bits text >>= λ bits. fitting width (bits_value bits)) else None
+    if nat_le (length text) ((width + 3) / 4)
+    then (digit_bits text >>= λ bits. fitting width (bits_value bits)) else None
 
 -- a target of whole bytes, with two digits for each
 unfoldable pub bytes_target : List ℕ → Option (List Bool)
@@ -36,7 +41,8 @@ target_of TokenLength text = bytes_target text
 -- the first `count` digits of the bits, four bits for each, in lower case
 unfoldable pub first_digits : ℕ → List Bool → List ℕ
 first_digits zero bits = []
-first_digits (suc count) bits = slice_index lower_digits (bits_value (take 4 bits)) ∷ first_digits count (drop 4 bits)
+first_digits (suc count) bits =
+    slice_index lower_digits (bits_value (take 4 bits)) ∷ first_digits count (drop 4 bits)
 
 -- the fewest zero bits that make whole digits of this many bits
 abbrev pub filling : ℕ → List Bool

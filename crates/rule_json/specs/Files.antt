@@ -1,5 +1,6 @@
 -- The layout of the files of the commands: contexts and work.
-use Rattle.std.specs.Prelude.{ℕ, ◌&&◌, ◌==◌, nat_le, not, Bool, true, if◌then◌else◌, List, [], ◌∷◌, length, Option, Some, None, codes}
+use Rattle.std.specs.Prelude.{ℕ, ◌&&◌, ◌==◌, nat_le, not, Bool, true, if◌then◌else◌, List, [], ◌∷◌}
+use Rattle.std.specs.Prelude.{length, Option, Some, None, codes}
 use Rattle.std.specs.List.{list_any}
 use Rattle.serde_json.specs.Data.{Data}
 use Rattle.serde_json.specs.Find.{get, as_object}
@@ -16,11 +17,13 @@ use Rattle.rule_json.specs.Devices.{device_in}
 -- no device has the number of a later one
 abbrev pub have_own_numbers : List DeviceLine → Bool
 have_own_numbers [] = true
-have_own_numbers (device ∷ devices) = not (list_any (λ other. other.number == device.number) devices) && have_own_numbers devices
+have_own_numbers (device ∷ devices) =
+    not (list_any (λ other. other.number == device.number) devices) && have_own_numbers devices
 
 -- at most 1,024 devices, each with a number of its own
 unfoldable pub distinct_devices : List DeviceLine → Option (List DeviceLine)
-distinct_devices devices = if nat_le (length devices) max_devices && have_own_numbers devices then Some devices else None
+distinct_devices devices =
+    if nat_le (length devices) max_devices && have_own_numbers devices then Some devices else None
 
 -- `devices` of a context, which may be absent and is then empty
 unfoldable pub devices_in : Data → Option (List DeviceLine)
@@ -46,4 +49,10 @@ work_in d = do
   app ← member_in (codes "app-iid") (text_in iid_of) d
   direction ← member_in (codes "direction") (text_in direction_of) d
   packets ← member_in (codes "packets") (list_of (text_in packet_of)) d
-  Some (record { editions = editions; iids = record { dev = dev; app = app }; direction = direction; packets = packets })
+  Some (record {
+    editions = editions;
+    iids = record { dev = dev; app = app };
+    direction =
+        direction;
+    packets = packets;
+  })

@@ -1,6 +1,8 @@
--- The layout of rule text: what a JSON value means as an entry, a rule or an edition. Members that aren't named here aren't
+-- The layout of rule text: what a JSON value means as an entry, a rule or an edition. Members that
+-- aren't named here aren't
 -- looked at.
-use Rattle.std.specs.Prelude.{ℕ, ◌^◌, Bool, true, if◌then◌else◌, List, [], Option, Some, None, codes}
+use Rattle.std.specs.Prelude.{ℕ, ◌^◌, Bool, true, if◌then◌else◌, List, [], Option, Some, None}
+use Rattle.std.specs.Prelude.{codes}
 use Rattle.std.specs.Option.{option_map, option_and_then}
 use Rattle.serde_json.specs.Data.{Data}
 use Rattle.serde_json.specs.Find.{get, as_str, as_bool}
@@ -30,7 +32,8 @@ length_in d = length_from (as_str d) (number_below (2 ^ 16) d)
 
 -- `matching-operator` with `matching-operator-value`, which is there exactly for `mo-msb`
 unfoldable pub operator_with : List ℕ → Option Data → Option Operator
-operator_with text (Some value) = if is_msb text then option_map Msb (number_below (2 ^ 16) value) else None
+operator_with text (Some value) =
+    if is_msb text then option_map Msb (number_below (2 ^ 16) value) else None
 operator_with text None = plain_operator text
 
 unfoldable pub operator_in : Data → Option Operator
@@ -40,7 +43,8 @@ operator_in d = do
 
 -- `target-value`: a list of texts, which may be absent and is then empty
 unfoldable pub targets_in : Length → Data → Option (List (List Bool))
-targets_in length d = default_or [] (list_of (text_in (target_of length))) (get (codes "target-value") d)
+targets_in length d =
+    default_or [] (list_of (text_in (target_of length))) (get (codes "target-value") d)
 
 -- RFC 8724, section 7.1: an entry
 unfoldable pub entry_in : Data → Option EntryData
@@ -52,7 +56,16 @@ entry_in d = do
   operator ← operator_in d
   action ← member_in (codes "comp-decomp-action") (text_in action_of) d
   targets ← targets_in length d
-  Some (record { name = name; length = length; position = position; direction = direction; targets = targets; operator = operator; action = action })
+  Some (record {
+    name = name;
+    length = length;
+    position = position;
+    direction = direction;
+    targets =
+        targets;
+    operator = operator;
+    action = action;
+  })
 
 -- whether a rule is live: so it is where nothing is said
 unfoldable pub live_in : Data → Option Bool

@@ -1,7 +1,9 @@
 -- What is written for an edition, and which editions can be written.
-use Rattle.std.specs.Prelude.{ℕ, ◌≡◌, ◌%◌, Bool, List, [], length, map, Option, Some, None, IsSome, unwrap_or, codes}
+use Rattle.std.specs.Prelude.{ℕ, ◌≡◌, ◌%◌, Bool, List, [], length, map, Option, Some, None, IsSome}
+use Rattle.std.specs.Prelude.{unwrap_or, codes}
 use Rattle.std.specs.List.{AllByRecursion}
-use Rattle.serde_json.specs.Data.{Data, boolean, number, unsigned, string, array, object, Members, member, no_members}
+use Rattle.serde_json.specs.Data.{Data, boolean, number, unsigned, string, array, object, Members}
+use Rattle.serde_json.specs.Data.{member, no_members}
 use Rattle.serde_json.specs.View.{items_of}
 use Rattle.serde_json.specs.Written.{compact_text}
 use Rattle.schc_ids.specs.Texts.{text_of}
@@ -41,7 +43,8 @@ with_value None rest = rest
 abbrev pub target_data : List Bool → Data
 target_data bits = string (target_text bits)
 
--- an entry, with all its members in the order of their keys; `value` is that of its operator, where it has one
+-- an entry, with all its members in the order of their keys; `value` is that of its operator, where
+-- it has one
 unfoldable pub entry_object : EntryData → Option ℕ → Data
 entry_object entry value =
     object (member (codes "comp-decomp-action") (string (action_text entry.action))
@@ -81,7 +84,8 @@ TargetCanBeSpelt TokenLength bits = length bits % 8 ≡ 0
 
 -- the field has a text, and each target can be spelt
 abbrev pub EntryCanBeSpelt : EntryData → Type 0
-EntryCanBeSpelt entry = IsSome (text_of entry.name) × AllByRecursion (TargetCanBeSpelt entry.length) entry.targets
+EntryCanBeSpelt entry = IsSome (text_of entry.name)
+    × AllByRecursion (TargetCanBeSpelt entry.length) entry.targets
 
 abbrev pub RuleCanBeSpelt : RawRule → Type 0
 RuleCanBeSpelt raw = AllByRecursion EntryCanBeSpelt raw.rule.entries

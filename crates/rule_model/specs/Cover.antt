@@ -1,9 +1,12 @@
 -- What a rule says of a direction: the entries that are used, the headers, and what isn't restored.
-use Rattle.std.specs.Prelude.{Bool, true, false, ◌&&◌, if◌then◌else◌, List, [], ◌∷◌, ◌++◌, filter, map}
+use Rattle.std.specs.Prelude.{Bool, true, false, ◌&&◌, if◌then◌else◌, List, [], ◌∷◌, ◌++◌, filter}
+use Rattle.std.specs.Prelude.{map}
 use Rattle.std.specs.List.{list_any, list_all}
 use Rattle.schc_ids.specs.declared.ends.Direction.{Direction}
 use Rattle.schc_ids.specs.declared.names.FieldName.{FieldName}
-use Rattle.schc_ids.specs.declared.names.FieldName.TheVariants.{IpDevPrefix, IpDevIid, IpAppPrefix, IpAppIid, UdpDevPort, UdpAppPort, UdpChecksum}
+use Rattle.schc_ids.specs.declared.names.FieldName.TheVariants.{IpDevPrefix, IpDevIid, IpAppPrefix}
+use Rattle.schc_ids.specs.declared.names.FieldName.TheVariants.{IpAppIid, UdpDevPort, UdpAppPort}
+use Rattle.schc_ids.specs.declared.names.FieldName.TheVariants.{UdpChecksum}
 use Rattle.schc_ids.specs.declared.names.FieldAt.{FieldAt}
 use Rattle.schc_ids.specs.declared.names.Layer.{Layer}
 use Rattle.schc_ids.specs.declared.names.Layer.TheVariants as layer
@@ -35,7 +38,8 @@ stack_of rule =
 abbrev pub has_field : RuleData → Direction → FieldName → Bool
 has_field rule direction name = list_any (λ e. same_name e.name name) (covered rule direction)
 
--- a rule serves a direction where the entries that are used in it hold each field that a packet of its stack
+-- a rule serves a direction where the entries that are used in it hold each field that a packet of
+-- its stack
 -- always has
 abbrev pub serves : RuleData → Direction → Bool
 serves rule direction = list_all (has_field rule direction) (fields_of_stack (stack_of rule))
@@ -59,7 +63,8 @@ abbrev pub computes_checksum : RuleData → Direction → Bool
 computes_checksum rule direction =
     list_any (λ e. same_name e.name UdpChecksum && is_compute e.action) (covered rule direction)
 
--- the UDP checksum is computed over the field, among those that a rule may drop: parts of the addresses
+-- the UDP checksum is computed over the field, among those that a rule may drop: parts of the
+-- addresses
 -- (RFC 8200, section 8.1), ports, and the fields of CoAP, which are the UDP datagram's data
 abbrev pub is_in_checksum : FieldName → Bool
 is_in_checksum IpDevPrefix = true
@@ -70,15 +75,19 @@ is_in_checksum UdpDevPort = true
 is_in_checksum UdpAppPort = true
 is_in_checksum name = same_layer (layer_of name) layer.Coap
 
--- the fields of the entries that are used in the direction, are ignored and send nothing, in the rule's order
+-- the fields of the entries that are used in the direction, are ignored and send nothing, in the
+-- rule's order
 abbrev pub lossy_fields : RuleData → Direction → List FieldAt
 lossy_fields rule direction =
-    map field_of (filter (λ e. covers e.direction direction && is_lossy e.operator e.action) rule.entries)
+    map field_of
+    (filter (λ e. covers e.direction direction && is_lossy e.operator e.action) rule.entries)
 
--- the fields whose value the other end may restore to another one: the lossy ones, and at the end the UDP checksum,
+-- the fields whose value the other end may restore to another one: the lossy ones, and at the end
+-- the UDP checksum,
 -- where it is computed over one of them
 abbrev pub dropped_fields : RuleData → Direction → List FieldAt
 dropped_fields rule direction =
-    if computes_checksum rule direction && list_any (λ f. is_in_checksum f.name) (lossy_fields rule direction)
+    if computes_checksum rule direction && list_any (λ f. is_in_checksum f.name)
+    (lossy_fields rule direction)
     then lossy_fields rule direction ++ record { name = UdpChecksum; position = 1 } ∷ []
     else lossy_fields rule direction

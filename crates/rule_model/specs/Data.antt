@@ -23,7 +23,8 @@ pub record RuleData : Type 0 where
 
 -- the two entries are of the same field, with the same length and in the same directions
 abbrev pub SameField : EntryData → EntryData → Type 0
-SameField a b = (a.name ≡ b.name) × (a.length ≡ b.length) × (a.position ≡ b.position) × (a.direction ≡ b.direction)
+SameField a b = (a.name ≡ b.name) × (a.length ≡ b.length) × (a.position ≡ b.position)
+    × (a.direction ≡ b.direction)
 
 -- the two entries have the same operator and action
 abbrev pub SameUse : EntryData → EntryData → Type 0

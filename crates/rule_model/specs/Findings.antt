@@ -1,23 +1,30 @@
 -- What keeps a rule from being admitted. Each kind of finding is a test of its own.
-use Rattle.std.specs.Prelude.{ℕ, ◌≡◌, ◌+◌, ◌*◌, ◌%◌, ◌==◌, Bool, true, false, ◌&&◌, ◌||◌, not, nat_lt, nat_le, if◌then◌else◌, List, [], ◌∷◌, length, take, drop, Option, Some, None, position}
+use Rattle.std.specs.Prelude.{ℕ, ◌≡◌, ◌+◌, ◌*◌, ◌%◌, ◌==◌, Bool, true, false, ◌&&◌, ◌||◌, not}
+use Rattle.std.specs.Prelude.{nat_lt, nat_le, if◌then◌else◌, List, [], ◌∷◌, length, take, drop}
+use Rattle.std.specs.Prelude.{Option, Some, None, position}
 use Rattle.std.specs.List.{list_any, list_all, enumerate_from}
 use Rattle.std.specs.Option.{option_map}
 use Rattle.schc_bits.specs.Bits.{bits_value}
 use Rattle.schc_ids.specs.declared.ends.Direction.TheVariants.{Up, Down}
 use Rattle.schc_ids.specs.declared.names.FieldName.{FieldName}
-use Rattle.schc_ids.specs.declared.names.FieldName.TheVariants.{IpVersion, IpPayloadLength, IpNextHeader, IpDevIid, IpAppIid, UdpLength, UdpChecksum, CoapVersion, CoapTkl, CoapToken, CoapOption}
+use Rattle.schc_ids.specs.declared.names.FieldName.TheVariants.{IpVersion, IpPayloadLength}
+use Rattle.schc_ids.specs.declared.names.FieldName.TheVariants.{IpNextHeader, IpDevIid, IpAppIid}
+use Rattle.schc_ids.specs.declared.names.FieldName.TheVariants.{UdpLength, UdpChecksum, CoapVersion}
+use Rattle.schc_ids.specs.declared.names.FieldName.TheVariants.{CoapTkl, CoapToken, CoapOption}
 use Rattle.schc_ids.specs.declared.names.Layer.TheVariants as layer
 use Rattle.schc_ids.specs.declared.names.Stack.{Stack}
 use Rattle.schc_ids.specs.declared.names.Stack.TheVariants as stack
 use Rattle.schc_ids.specs.Ends.{share_direction}
-use Rattle.schc_ids.specs.Limits.{ack_on_error_port, ack_always_port, uncompressed_port, no_ack_up_port, no_ack_down_port}
+use Rattle.schc_ids.specs.Limits.{ack_on_error_port, ack_always_port, uncompressed_port}
+use Rattle.schc_ids.specs.Limits.{no_ack_up_port, no_ack_down_port}
 use Rattle.schc_ids.specs.Names.{is_option, same_name, width_of}
 use Rattle.rule_model.specs.declared.rule.Length.{Length}
 use Rattle.rule_model.specs.declared.rule.Length.TheVariants.{Fixed, Variable, TokenLength}
 use Rattle.rule_model.specs.declared.rule.Operator.{Operator}
 use Rattle.rule_model.specs.declared.rule.Operator.TheVariants.{Equal, Ignore, Msb, MatchMapping}
 use Rattle.rule_model.specs.declared.rule.Action.{Action}
-use Rattle.rule_model.specs.declared.rule.Action.TheVariants.{NotSent, ValueSent, MappingSent, Lsb, Compute, DevIid, AppIid}
+use Rattle.rule_model.specs.declared.rule.Action.TheVariants.{NotSent, ValueSent, MappingSent, Lsb}
+use Rattle.rule_model.specs.declared.rule.Action.TheVariants.{Compute, DevIid, AppIid}
 use Rattle.rule_model.specs.declared.finding.FindingKind.{FindingKind}
 use Rattle.rule_model.specs.declared.finding.FindingKind.TheVariants as kind
 use Rattle.rule_model.specs.declared.finding.Finding.{Finding}
@@ -42,13 +49,16 @@ mixed_stack rule =
 
 -- an entry has the name and position of another one, and both are used in one direction
 abbrev pub repeats : EntryData → EntryData → Bool
-repeats e other = same_name e.name other.name && (e.position == other.position) && share_direction e.direction other.direction
+repeats e other =
+    same_name e.name other.name && (e.position == other.position) && share_direction e.direction
+    other.direction
 
 -- field-twice: the entry repeats an earlier one
 abbrev pub field_twice : List EntryData → EntryData → Bool
 field_twice earlier e = list_any (repeats e) earlier
 
--- serves-no-direction: in neither direction do the used entries hold every always-present field of the stack
+-- serves-no-direction: in neither direction do the used entries hold every always-present field of
+-- the stack
 abbrev pub serves_no_direction : RuleData → Bool
 serves_no_direction rule = not (serves rule Up) && not (serves rule Down)
 
@@ -74,10 +84,12 @@ is_length_of (CoapOption number) length = is_option_length length
 is_length_of CoapToken length = is_token_length length
 is_length_of name length = is_fixed_at (width_of name) length
 
--- shape-wrong: the length isn't one of the field's, or the position is 0, or above 1 for a field that isn't an option
+-- shape-wrong: the length isn't one of the field's, or the position is 0, or above 1 for a field
+-- that isn't an option
 abbrev pub shape_wrong : EntryData → Bool
 shape_wrong e =
-    not (is_length_of e.name e.length) || (e.position == 0) || (nat_lt 1 e.position && not (is_option e.name))
+    not (is_length_of e.name e.length) || (e.position == 0) || (nat_lt 1 e.position && not
+    (is_option e.name))
 
 -- the operators with the actions that go with them
 abbrev pub is_allowed_pair : Operator → Action → Bool
@@ -107,9 +119,11 @@ same_bits _ _ = false
 -- no target stands twice
 abbrev pub all_different : List (List Bool) → Bool
 all_different [] = true
-all_different (target ∷ targets) = not (list_any (same_bits target) targets) && all_different targets
+all_different (target ∷ targets) =
+    not (list_any (same_bits target) targets) && all_different targets
 
--- the number of targets: one for equal, MSB, and ignore with not-sent; 1 to 256, all different, for match-mapping;
+-- the number of targets: one for equal, MSB, and ignore with not-sent; 1 to 256, all different, for
+-- match-mapping;
 -- any number for ignore with another action, which doesn't use them
 abbrev pub is_count_right : Operator → Action → List (List Bool) → Bool
 is_count_right Equal action targets = length targets == 1
@@ -122,7 +136,8 @@ is_count_right MatchMapping action targets =
 -- a whole number of bytes, from `least` to `most`
 abbrev pub is_bytes : ℕ → ℕ → List Bool → Bool
 is_bytes least most target =
-    (length target % 8 == 0) && nat_le (8 * least) (length target) && nat_le (length target) (8 * most)
+    (length target % 8 == 0) && nat_le (8 * least) (length target) && nat_le (length target)
+    (8 * most)
 
 -- a target has the fixed width, or whole bytes up to 1,500, or is a token of 1 to 8 bytes
 abbrev pub has_length : Length → List Bool → Bool
@@ -130,7 +145,8 @@ has_length (Fixed bits) target = length target == bits
 has_length Variable target = is_bytes 0 1500 target
 has_length TokenLength target = is_bytes 1 8 target
 
--- a target of the IPv6 version is 6, of the CoAP version 1, of the token length at most 8, of the next header in a
+-- a target of the IPv6 version is 6, of the CoAP version 1, of the token length at most 8, of the
+-- next header in a
 -- stack with UDP 17
 abbrev pub has_value : Stack → FieldName → List Bool → Bool
 has_value stack IpVersion target = bits_value target == 6
@@ -145,12 +161,15 @@ has_value stack _ target = true
 abbrev pub target_wrong : Stack → EntryData → Bool
 target_wrong stack e =
     not (is_count_right e.operator e.action e.targets)
-    || not (list_all (λ target. has_length e.length target && has_value stack e.name target) e.targets)
+    || not (list_all (λ target. has_length e.length target && has_value stack e.name target)
+    e.targets)
 
--- MSB(x) with x = 0, x above the target's length, x not a multiple of 8 on an option, or on the token
+-- MSB(x) with x = 0, x above the target's length, x not a multiple of 8 on an option, or on the
+-- token
 abbrev pub is_msb_wrong : Operator → FieldName → List (List Bool) → Bool
 is_msb_wrong (Msb bits) name targets =
-    (bits == 0) || list_any (λ target. nat_lt (length target) bits) targets || (is_option name && not (bits % 8 == 0))
+    (bits == 0) || list_any (λ target. nat_lt (length target) bits)
+    targets || (is_option name && not (bits % 8 == 0))
     || same_name name CoapToken
 is_msb_wrong _ name targets = false
 
@@ -187,12 +206,14 @@ is_computed_by AppIid IpAppIid = true
 is_computed_by AppIid _ = false
 is_computed_by _ _ = true
 
--- compute-wrong: compute on another field than the lengths and the UDP checksum, DevIID on another than the device's
+-- compute-wrong: compute on another field than the lengths and the UDP checksum, DevIID on another
+-- than the device's
 -- interface identifier, AppIID on another than the application's
 abbrev pub compute_wrong : EntryData → Bool
 compute_wrong e = not (is_computed_by e.action e.name)
 
--- order-wrong: the token's entry stands before a token length entry that is used in one of its directions
+-- order-wrong: the token's entry stands before a token length entry that is used in one of its
+-- directions
 abbrev pub order_wrong : EntryData → List EntryData → Bool
 order_wrong e later =
     same_name e.name CoapToken
@@ -218,7 +239,8 @@ is_of_entry kind.ComputeWrong rule before e = compute_wrong e
 is_of_entry kind.OrderWrong rule before e = order_wrong e (drop before rule.entries)
 is_of_entry _ rule before e = false
 
--- the first entry, from 1, at which there is a finding of this kind; 0 where it is of the rule as a whole
+-- the first entry, from 1, at which there is a finding of this kind; 0 where it is of the rule as a
+-- whole
 abbrev pub place_of : FindingKind → RuleData → Option ℕ
 place_of k rule =
     if is_of_rule k rule then Some 0
@@ -249,15 +271,20 @@ number_of kind.TooLarge = 18
 -- the kinds of findings, in the order of their numbers
 abbrev pub all_kinds : List FindingKind
 all_kinds =
-    kind.IdOutOfRange ∷ kind.IdReserved ∷ kind.IdTwice ∷ kind.MixedStack ∷ kind.FieldTwice ∷ kind.ServesNoDirection
-    ∷ kind.ShapeWrong ∷ kind.PairNotAllowed ∷ kind.TargetWrong ∷ kind.MsbWrong ∷ kind.NotDroppable ∷ kind.ComputeWrong
-    ∷ kind.OrderWrong ∷ kind.NumberNotNext ∷ kind.IdGone ∷ kind.MeaningChanged ∷ kind.Revived ∷ kind.TooLarge ∷ []
+    kind.IdOutOfRange ∷ kind.IdReserved ∷ kind.IdTwice ∷ kind.MixedStack ∷ kind.FieldTwice
+    ∷ kind.ServesNoDirection
+    ∷ kind.ShapeWrong ∷ kind.PairNotAllowed ∷ kind.TargetWrong ∷ kind.MsbWrong ∷ kind.NotDroppable
+    ∷ kind.ComputeWrong
+    ∷ kind.OrderWrong ∷ kind.NumberNotNext ∷ kind.IdGone ∷ kind.MeaningChanged ∷ kind.Revived
+    ∷ kind.TooLarge ∷ []
 
 -- those that are about one rule
 abbrev pub rule_kinds : List FindingKind
 rule_kinds =
-    kind.IdOutOfRange ∷ kind.IdReserved ∷ kind.MixedStack ∷ kind.FieldTwice ∷ kind.ServesNoDirection ∷ kind.ShapeWrong
-    ∷ kind.PairNotAllowed ∷ kind.TargetWrong ∷ kind.MsbWrong ∷ kind.NotDroppable ∷ kind.ComputeWrong ∷ kind.OrderWrong ∷ []
+    kind.IdOutOfRange ∷ kind.IdReserved ∷ kind.MixedStack ∷ kind.FieldTwice ∷ kind.ServesNoDirection
+    ∷ kind.ShapeWrong
+    ∷ kind.PairNotAllowed ∷ kind.TargetWrong ∷ kind.MsbWrong ∷ kind.NotDroppable ∷ kind.ComputeWrong
+    ∷ kind.OrderWrong ∷ []
 
 -- there is no finding of any kind; those of an edition are about no single rule
 abbrev pub IsAdmitted : RuleData → Type 0
@@ -266,7 +293,8 @@ IsAdmitted rule = (k : FindingKind) → place_of k rule ≡ None
 -- the first of the kinds of which there is a finding, with the place where it is
 abbrev pub found_at : RuleData → FindingKind → Option ℕ → Option Finding → Option Finding
 found_at rule k None rest = rest
-found_at rule k (Some entry) rest = Some (record { number = number_of k; id = rule.id; entry = entry })
+found_at rule k (Some entry) rest =
+    Some (record { number = number_of k; id = rule.id; entry = entry })
 
 abbrev pub first_among : RuleData → List FindingKind → Option Finding
 first_among rule [] = None

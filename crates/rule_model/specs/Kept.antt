@@ -8,7 +8,8 @@ use Rattle.rule_model.specs.Cover.{dropped_fields, serves, stack_of}
 use Rattle.rule_model.specs.Findings.{IsAdmitted}
 
 -- the rule is admitted, and the rest is what follows from it
-pub record KeepsWhatFollows (rule : RuleData) (stack : Stack) (serves_up serves_down : Bool) (up down : List FieldAt) : Type 0 where
+pub record KeepsWhatFollows (rule : RuleData) (stack : Stack) (serves_up serves_down : Bool)
+    (up down : List FieldAt) : Type 0 where
   pub admitted : IsAdmitted rule
   pub its_stack : stack ≡ stack_of rule
   pub its_up : serves_up ≡ serves rule Up

@@ -1,5 +1,7 @@
 -- RFC 8724, section 8: bits are sent most significant first.
-use Rattle.std.specs.Prelude.{ℕ, ◌+◌, ◌-◌, ◌/◌, ◌%◌, ◌^◌, ◌==◌, ◌<◌, zero, suc, Bool, false, if◌then◌else◌, List, [], ◌∷◌, ◌++◌, length, take, drop, replicate, nat_le, Option, Some, None}
+use Rattle.std.specs.Prelude.{ℕ, ◌+◌, ◌-◌, ◌/◌, ◌%◌, ◌^◌, ◌==◌, ◌<◌, zero, suc, Bool, false}
+use Rattle.std.specs.Prelude.{if◌then◌else◌, List, [], ◌∷◌, ◌++◌, length, take, drop, replicate}
+use Rattle.std.specs.Prelude.{nat_le, Option, Some, None}
 use Rattle.std.specs.List.{AllByRecursion}
 
 -- the number, written in `count` bits, the most significant first
@@ -36,8 +38,11 @@ AreBytes bytes = AllByRecursion (λ byte. byte < 256) bytes
 
 -- the next `count` bits, and the bits after them; none where fewer are there
 unfoldable pub bits_at : ℕ → List Bool → Option (List Bool × List Bool)
-bits_at count bits = if nat_le count (length bits) then Some (take count bits, drop count bits) else None
+bits_at count bits =
+    if nat_le count (length bits) then Some (take count bits, drop count bits) else None
 
 -- the number that the next `count` bits write, and the bits after them; none where fewer are there
 unfoldable pub number_at : ℕ → List Bool → Option (ℕ × List Bool)
-number_at count bits = if nat_le count (length bits) then Some (bits_value (take count bits), drop count bits) else None
+number_at count bits =
+    if nat_le count (length bits) then Some (bits_value (take count bits), drop count bits)
+    else None

@@ -1,5 +1,6 @@
 -- Bits kept in words of 64 bits, the first bit highest in its word.
-use Rattle.std.specs.Prelude.{ℕ, ◌≡◌, ◌+◌, ◌-◌, ◌*◌, ◌/◌, Bool, false, List, [], ◌∷◌, ◌++◌, length, drop, replicate}
+use Rattle.std.specs.Prelude.{ℕ, ◌≡◌, ◌+◌, ◌-◌, ◌*◌, ◌/◌, Bool, false, List, [], ◌∷◌, ◌++◌, length}
+use Rattle.std.specs.Prelude.{drop, replicate}
 use Rattle.schc_bits.specs.Bits.{number_bits}
 
 -- all bits of the words

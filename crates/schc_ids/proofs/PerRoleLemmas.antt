@@ -9,18 +9,24 @@ use Rattle.schc_ids.specs.Ends.{other_role, other_direction}
 use Rattle.schc_ids.specs.PerRole.{PerRole, at_role, put_role}
 use Rattle.schc_ids.specs.PerDirection.{PerDirection, at_direction, put_direction}
 
-pub at_role-put_role : {A : Type 0} (both : PerRole A) (role : Role) (one : A) → at_role (put_role both role one) role ≡ one
+pub at_role-put_role : {A : Type 0} (both : PerRole A) (role : Role) (one : A)
+    → at_role (put_role both role one) role ≡ one
 at_role-put_role both Device one = refl
 at_role-put_role both Gateway one = refl
 
-pub at_role-put_role-other : {A : Type 0} (both : PerRole A) (role : Role) (one : A) → at_role (put_role both role one) (other_role role) ≡ at_role both (other_role role)
+pub at_role-put_role-other : {A : Type 0} (both : PerRole A) (role : Role) (one : A)
+    → at_role (put_role both role one) (other_role role) ≡ at_role both (other_role role)
 at_role-put_role-other both Device one = refl
 at_role-put_role-other both Gateway one = refl
 
-pub at_direction-put_direction : {A : Type 0} (both : PerDirection A) (direction : Direction) (one : A) → at_direction (put_direction both direction one) direction ≡ one
+pub at_direction-put_direction : {A : Type 0} (both : PerDirection A) (direction : Direction)
+    (one : A) → at_direction (put_direction both direction one) direction ≡ one
 at_direction-put_direction both way.Up one = refl
 at_direction-put_direction both way.Down one = refl
 
-pub at_direction-put_direction-other : {A : Type 0} (both : PerDirection A) (direction : Direction) (one : A) → at_direction (put_direction both direction one) (other_direction direction) ≡ at_direction both (other_direction direction)
+pub at_direction-put_direction-other : {A : Type 0} (both : PerDirection A) (direction : Direction)
+    (one : A)
+    → at_direction (put_direction both direction one) (other_direction direction) ≡ at_direction
+    both (other_direction direction)
 at_direction-put_direction-other both way.Up one = refl
 at_direction-put_direction-other both way.Down one = refl

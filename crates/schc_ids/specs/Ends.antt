@@ -25,7 +25,8 @@ abbrev pub other_direction : Direction → Direction
 other_direction way.Up = way.Down
 other_direction way.Down = way.Up
 
--- an entry is used in the direction that its indicator (DI) names, or in both: RFC 8724, section 7.1
+-- an entry is used in the direction that its indicator (DI) names, or in both: RFC 8724, section
+-- 7.1
 abbrev pub covers : DirInd → Direction → Bool
 covers indicator.Up way.Up = true
 covers indicator.Up way.Down = false
@@ -35,4 +36,5 @@ covers indicator.Both direction = true
 
 -- some direction is among those of both indicators
 abbrev pub share_direction : DirInd → DirInd → Bool
-share_direction a b = (covers a way.Up && covers b way.Up) || (covers a way.Down && covers b way.Down)
+share_direction a b =
+    (covers a way.Up && covers b way.Up) || (covers a way.Down && covers b way.Down)

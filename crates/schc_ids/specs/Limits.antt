@@ -33,7 +33,8 @@ queue_room = 8
 abbrev pub reassembly_bytes : ℕ
 reassembly_bytes = 2530
 
--- the bits of an SCHC packet that is cut in tiles, and of one that goes as a session: at most the tiles of four windows of 63
+-- the bits of an SCHC packet that is cut in tiles, and of one that goes as a session: at most the
+-- tiles of four windows of 63
 -- (RFC 9011, section 5.6.2)
 abbrev pub min_cut_bits : ℕ
 min_cut_bits = 96
@@ -60,7 +61,8 @@ max_events = 200000
 abbrev pub max_input : ℕ
 max_input = 67108864
 
--- how many rules an edition has at most, how many entries a rule, and how many bytes the targets of an edition together
+-- how many rules an edition has at most, how many entries a rule, and how many bytes the targets of
+-- an edition together
 abbrev pub max_rules : ℕ
 max_rules = 200
 
@@ -78,7 +80,8 @@ max_editions = 256
 abbrev pub max_datagrams : ℕ
 max_datagrams = 500000
 
--- RuleIDs, which are ports too (RFC 9011, section 5.2): of fragments up and their answers, of fragments down and their
+-- RuleIDs, which are ports too (RFC 9011, section 5.2): of fragments up and their answers, of
+-- fragments down and their
 -- answers, and of packets that no rule compresses
 abbrev pub ack_on_error_port : ℕ
 ack_on_error_port = 20

@@ -1,4 +1,5 @@
-use Rattle.std.specs.Prelude.{ℕ, ◌+◌, ◌==◌, Bool, true, false, Option, Some, None, List, [], ◌∷◌, ◌++◌}
+use Rattle.std.specs.Prelude.{ℕ, ◌+◌, ◌==◌, Bool, true, false, Option, Some, None, List, [], ◌∷◌}
+use Rattle.std.specs.Prelude.{◌++◌}
 use Rattle.schc_ids.specs.declared.names.Layer.{Layer}
 use Rattle.schc_ids.specs.declared.names.Layer.TheVariants as layer
 use Rattle.schc_ids.specs.declared.names.Stack.{Stack}
@@ -6,7 +7,8 @@ use Rattle.schc_ids.specs.declared.names.Stack.TheVariants as stack
 use Rattle.schc_ids.specs.declared.names.FieldName.{FieldName}
 use Rattle.schc_ids.specs.declared.names.FieldName.TheVariants as field
 
--- the bits of a field: RFC 8200, section 3 (an address as a prefix and an interface identifier of 64 bits each),
+-- the bits of a field: RFC 8200, section 3 (an address as a prefix and an interface identifier of
+-- 64 bits each),
 -- RFC 768, and RFC 7252, section 3; none for the token and the options
 abbrev pub width_of : FieldName → Option ℕ
 width_of field.IpVersion = Some 4
@@ -81,7 +83,8 @@ rank_of (field.CoapOption number) = 20 + number
 -- the fields of an IPv6 header
 abbrev pub ip_fields : List FieldName
 ip_fields =
-    field.IpVersion ∷ field.IpTrafficClass ∷ field.IpFlowLabel ∷ field.IpPayloadLength ∷ field.IpNextHeader ∷ field.IpHopLimit ∷ field.IpDevPrefix
+    field.IpVersion ∷ field.IpTrafficClass ∷ field.IpFlowLabel ∷ field.IpPayloadLength
+    ∷ field.IpNextHeader ∷ field.IpHopLimit ∷ field.IpDevPrefix
     ∷ field.IpDevIid ∷ field.IpAppPrefix ∷ field.IpAppIid ∷ []
 
 -- the fields of a UDP header
@@ -90,7 +93,8 @@ udp_fields = field.UdpDevPort ∷ field.UdpAppPort ∷ field.UdpLength ∷ field
 
 -- the fields that each CoAP message has
 abbrev pub coap_fields : List FieldName
-coap_fields = field.CoapVersion ∷ field.CoapType ∷ field.CoapTkl ∷ field.CoapCode ∷ field.CoapMid ∷ []
+coap_fields =
+    field.CoapVersion ∷ field.CoapType ∷ field.CoapTkl ∷ field.CoapCode ∷ field.CoapMid ∷ []
 
 -- the fields that each packet of a stack has, in packet order
 abbrev pub fields_of_stack : Stack → List FieldName

@@ -1,6 +1,8 @@
--- The texts of field names in rule text: field identifiers in the manner of RFC 9363, and the names of the options of RFC 7252
+-- The texts of field names in rule text: field identifiers in the manner of RFC 9363, and the names
+-- of the options of RFC 7252
 -- (section 5.10), RFC 7641, RFC 7959, RFC 7967 and RFC 8613.
-use Rattle.std.specs.Prelude.{ℕ, ◌≡◌, ◌↔◌, ◌==◌, Bool, false, if◌then◌else◌, List, [], ◌∷◌, ◌++◌, map, Option, Some, None, codes, find}
+use Rattle.std.specs.Prelude.{ℕ, ◌≡◌, ◌↔◌, ◌==◌, Bool, false, if◌then◌else◌, List, [], ◌∷◌, ◌++◌}
+use Rattle.std.specs.Prelude.{map, Option, Some, None, codes, find}
 use Rattle.std.specs.Option.{option_map_or}
 use Rattle.std.specs.Str.{bytes_eq}
 use Rattle.schc_ids.specs.declared.names.FieldName.{FieldName}
@@ -61,11 +63,13 @@ text_of (field.CoapOption number) = option_text number
 -- the numbers of the options that have a text
 abbrev pub named_options : List ℕ
 named_options =
-    1 ∷ 3 ∷ 4 ∷ 5 ∷ 6 ∷ 7 ∷ 8 ∷ 9 ∷ 11 ∷ 12 ∷ 14 ∷ 15 ∷ 17 ∷ 20 ∷ 23 ∷ 27 ∷ 28 ∷ 35 ∷ 39 ∷ 60 ∷ 258 ∷ []
+    1 ∷ 3 ∷ 4 ∷ 5 ∷ 6 ∷ 7 ∷ 8 ∷ 9 ∷ 11 ∷ 12 ∷ 14 ∷ 15 ∷ 17 ∷ 20 ∷ 23 ∷ 27 ∷ 28 ∷ 35 ∷ 39 ∷ 60 ∷ 258
+    ∷ []
 
 -- the names that have a text
 abbrev pub named_fields : List FieldName
-named_fields = fields_of_stack stack.IpUdpCoap ++ field.CoapToken ∷ map field.CoapOption named_options
+named_fields =
+    fields_of_stack stack.IpUdpCoap ++ field.CoapToken ∷ map field.CoapOption named_options
 
 -- whether this is the name's text
 abbrev pub has_text : FieldName → List ℕ → Bool
@@ -77,4 +81,5 @@ name_of_text text = find (λ name. has_text name text) named_fields
 
 -- the text of a field's name names that field, and no other text does
 abbrev pub TextsName : Type 0
-TextsName = (name : FieldName) (text : List ℕ) → (text_of name ≡ Some text) ↔ (name_of_text text ≡ Some name)
+TextsName = (name : FieldName) (text : List ℕ)
+    → (text_of name ≡ Some text) ↔ (name_of_text text ≡ Some name)

@@ -13,13 +13,18 @@ use Rattle.sessions.specs.declared.moves.Running.{Running}
 use Rattle.sessions.specs.declared.senders.Sender.{Sender}
 use Rattle.sessions.specs.declared.senders.Sender.TheVariants.{NoAck, AckAlways, AckOnError}
 
-answer-to : (sender : Sender) (params : FragParams) (message : Message) → sender_params sender ≡ params → IsAnswer params message → HasAnswer sender message
+answer-to : (sender : Sender) (params : FragParams) (message : Message)
+    → sender_params sender ≡ params → IsAnswer params message → HasAnswer sender message
 answer-to (NoAck s) params message e h = tt
 answer-to (AckAlways s) params message e h = tt
 answer-to (AckOnError s) params message e h = subst (λ p. IsAnswer p message) (sym e) h
 
-pub has_answer : (role : Role) (params : EndParams) (running : Option Running) (session : Running) (left : Option ℕ) (message : Message) (other : Role) → params.acked ≡ true → running ≡ Some session → AreRunning role params running left → other ≡ role → IsAnswer (sending_of other true).1 message → HasAnswer session.sender message
+pub has_answer : (role : Role) (params : EndParams) (running : Option Running) (session : Running)
+    (left : Option ℕ) (message : Message) (other : Role) → params.acked ≡ true
+    → running ≡ Some session → AreRunning role params running left → other ≡ role
+    → IsAnswer (sending_of other true).1 message → HasAnswer session.sender message
 has_answer role params running session left message other a r h o i =
     let was : IsRunning role params session left = subst (λ x. AreRunning role params x left) r h in
-    let row = was.row ∙ ap (λ acked. (sending_of role acked).1) a ∙ ap (λ x. (sending_of x true).1) (sym o) in
+    let row = was.row ∙ ap (λ acked. (sending_of role acked).1) a
+    ∙ ap (λ x. (sending_of x true).1) (sym o) in
     answer-to session.sender (sending_of other true).1 message row i

@@ -15,7 +15,8 @@ pub same_key_true : (a b : SessionKey) → same_key a b ≡ true → a ≡ b
 unfolding same_key
 same_key_true a b e =
     let both = and-true (a.port == b.port) (a.tag == b.tag) e in
-    ap (λ p. record { port = p; tag = a.tag }) (eqb-true a.port b.port both.0) ∙ ap (λ t. record { port = b.port; tag = t }) (eqb-true a.tag b.tag both.1)
+    ap (λ p. record { port = p; tag = a.tag }) (eqb-true a.port b.port both.0)
+    ∙ ap (λ t. record { port = b.port; tag = t }) (eqb-true a.tag b.tag both.1)
 
 -- a list of one key
 pub found_own : {A : Type 0} (key : SessionKey) (o : Option A) → found key (entry key o) ≡ o
@@ -23,14 +24,16 @@ unfolding found entry
 found_own key None = refl
 found_own key (Some x) = rw (same_key_refl key)
 
-pub put_own : {A : Type 0} (key : SessionKey) (old new : Option A) → put_in key new (entry key old) ≡ entry key new
+pub put_own : {A : Type 0} (key : SessionKey) (old new : Option A)
+    → put_in key new (entry key old) ≡ entry key new
 unfolding put_in entry without
 put_own key None None = refl
 put_own key None (Some y) = refl
 put_own key (Some x) None = rw (same_key_refl key)
 put_own key (Some x) (Some y) = rw (same_key_refl key)
 
-pub found_other : {A : Type 0} (key other : SessionKey) (o : Option A) → same_key key other ≡ false → found key (entry other o) ≡ None
+pub found_other : {A : Type 0} (key other : SessionKey) (o : Option A) → same_key key other ≡ false
+    → found key (entry other o) ≡ None
 unfolding found entry
 found_other key other None e = refl
 found_other key other (Some x) e = rw e

@@ -19,8 +19,10 @@ use Rattle.sessions.specs.Data.{port_key, shown}
 use Rattle.sessions.specs.Holds.{is_armed, sender_timed, IsRunning, AreRunning}
 use Rattle.sessions.specs.Receivers.{receiver_phase, receiver_taken}
 use Rattle.sessions.specs.Reception.{receiver_left, reception_taken}
-use Rattle.sessions.specs.Senders.{sender_params, sender_mtu, sender_phase, sender_due, sender_sent, sender_heard, sender_retried, sender_aborted}
-use Rattle.sessions.specs.Session.{Session, sender_left, session_moved, session_sent, session_heard, session_aborted, sent_report, sent_kind, reported}
+use Rattle.sessions.specs.Senders.{sender_params, sender_mtu, sender_phase, sender_due, sender_sent}
+use Rattle.sessions.specs.Senders.{sender_heard, sender_retried, sender_aborted}
+use Rattle.sessions.specs.Session.{Session, sender_left, session_moved, session_sent, session_heard}
+use Rattle.sessions.specs.Session.{session_aborted, sent_report, sent_kind, reported}
 use Rattle.sessions.specs.Steps.{given}
 use Rattle.sessions.specs.declared.moves.Running.{Running}
 use Rattle.sessions.specs.declared.out.SessionOut.{SessionOut}
@@ -29,10 +31,14 @@ use Rattle.sessions.specs.declared.senders.Sender.{Sender}
 use Rattle.sessions.proofs.SenderLemmas.{GoesOn, sent_still, retried_goes, retried_leaves}
 use Rattle.sessions.proofs.StepLemmas.{left_timed}
 
-pub left_is : (ticks : TimerTicks) (old new : Sender) (before after : SenderPhase) (left : Option ℕ) → before ≡ sender_phase old → after ≡ sender_phase new → sender_left ticks before after left ≡ sender_left ticks (sender_phase old) (sender_phase new) left
+pub left_is : (ticks : TimerTicks) (old new : Sender) (before after : SenderPhase) (left : Option ℕ)
+    → before ≡ sender_phase old → after ≡ sender_phase new
+    → sender_left ticks before after left ≡ sender_left ticks (sender_phase old) (sender_phase new)
+    left
 left_is ticks old new before after left b a = rw (b, a) refl
 
-same-left : (ticks : TimerTicks) (phase : SenderPhase) (left : Option ℕ) → sender_left ticks phase phase left ≡ left
+same-left : (ticks : TimerTicks) (phase : SenderPhase) (left : Option ℕ)
+    → sender_left ticks phase phase left ≡ left
 unfolding sender_left
 same-left ticks Sending left = refl
 same-left ticks Waiting left = refl
@@ -40,7 +46,11 @@ same-left ticks Closing left = refl
 same-left ticks Quiet left = refl
 
 -- the session goes on, and its timer runs where it should
-pub moved_keeps : (ticks : TimerTicks) (number : ℕ) (old new : Sender) (left left' : Option ℕ) → GoesOn old new → left' ≡ sender_left ticks (sender_phase old) (sender_phase new) left → (role : Role) (params : EndParams) → IsRunning role params (record { number = number; sender = old }) left → IsRunning role params (record { number = number; sender = new }) left'
+pub moved_keeps : (ticks : TimerTicks) (number : ℕ) (old new : Sender) (left left' : Option ℕ)
+    → GoesOn old new → left' ≡ sender_left ticks (sender_phase old) (sender_phase new) left
+    → (role : Role) (params : EndParams)
+    → IsRunning role params (record { number = number; sender = old }) left
+    → IsRunning role params (record { number = number; sender = new }) left'
 moved_keeps ticks number old new left left' goes l role params h = record {
   row = goes.params ∙ h.row;
   mtu = goes.mtu ∙ h.mtu;
@@ -48,14 +58,24 @@ moved_keeps ticks number old new left left' goes l role params h = record {
 }
 
 -- a message was given
-pub given_after : (ticks : TimerTicks) (number : ℕ) (old new : Sender) (left left' : Option ℕ) → new ≡ sender_sent old → left' ≡ sender_left ticks (sender_phase old) (sender_phase new) left → shown (record { number = number; sender = new }) left' ≡ session_sent ticks (shown (record { number = number; sender = old }) left)
+pub given_after : (ticks : TimerTicks) (number : ℕ) (old new : Sender) (left left' : Option ℕ)
+    → new ≡ sender_sent old → left' ≡ sender_left ticks (sender_phase old) (sender_phase new) left
+    → shown (record { number = number; sender = new }) left' ≡ session_sent ticks
+    (shown (record { number = number; sender = old }) left)
 unfolding session_sent session_moved
 given_after ticks number old new left left' s l = rw (l, s) refl
 
-pub given_is : (port : ℕ) (kind : EmitKind) (report : Option Report) (session : Session) (bytes : List ℕ) (due : Option (List ℕ)) → due ≡ Some bytes → report ≡ sent_report session → Some (record { frame = record { port = port; bytes = bytes }; kind = kind; report = report }) ≡ option_map (λ bytes. given (port_key port) bytes kind (sent_report session)) due
+pub given_is : (port : ℕ) (kind : EmitKind) (report : Option Report) (session : Session)
+    (bytes : List ℕ) (due : Option (List ℕ)) → due ≡ Some bytes → report ≡ sent_report session
+    → Some (record
+    { frame = record { port = port; bytes = bytes }; kind = kind; report = report }) ≡ option_map
+    (λ bytes. given (port_key port) bytes kind (sent_report session)) due
 given_is port kind report session bytes due d r = rw (d, r) refl
 
-pub report_is : (number : ℕ) (old new : Sender) (left : Option ℕ) (before after : SenderPhase) (report : Option Report) → before ≡ sender_phase old → after ≡ sender_phase new → new ≡ sender_sent old → report ≡ reported number (sent_kind before after) → report ≡ sent_report (shown (record { number = number; sender = old }) left)
+pub report_is : (number : ℕ) (old new : Sender) (left : Option ℕ) (before after : SenderPhase)
+    (report : Option Report) → before ≡ sender_phase old → after ≡ sender_phase new
+    → new ≡ sender_sent old → report ≡ reported number (sent_kind before after)
+    → report ≡ sent_report (shown (record { number = number; sender = old }) left)
 unfolding sent_report
 report_is number old new left before after report b a n r = rw (r, b, a, n) refl
 
@@ -63,48 +83,103 @@ report_is number old new left before after report b a n r = rw (r, b, a, n) refl
 pub still_same : (old new : Sender) → new ≡ sender_sent old → sender_due old ≡ None → new ≡ old
 still_same old new n d = n ∙ sent_still old d
 
-pub still_after : (ticks : TimerTicks) (number : ℕ) (old new : Sender) (left : Option ℕ) → new ≡ sender_sent old → sender_due old ≡ None → shown (record { number = number; sender = new }) left ≡ session_sent ticks (shown (record { number = number; sender = old }) left)
+pub still_after : (ticks : TimerTicks) (number : ℕ) (old new : Sender) (left : Option ℕ)
+    → new ≡ sender_sent old → sender_due old ≡ None
+    → shown (record { number = number; sender = new }) left ≡ session_sent ticks
+    (shown (record { number = number; sender = old }) left)
 unfolding session_sent session_moved
 still_after ticks number old new left n d =
     rw (n, sent_still old d, same-left ticks (sender_phase old) left) refl
 
-pub still_keeps : (number : ℕ) (old new : Sender) (left : Option ℕ) → new ≡ sender_sent old → sender_due old ≡ None → (role : Role) (params : EndParams) → IsRunning role params (record { number = number; sender = old }) left → IsRunning role params (record { number = number; sender = new }) left
+pub still_keeps : (number : ℕ) (old new : Sender) (left : Option ℕ) → new ≡ sender_sent old
+    → sender_due old ≡ None → (role : Role) (params : EndParams)
+    → IsRunning role params (record { number = number; sender = old }) left
+    → IsRunning role params (record { number = number; sender = new }) left
 still_keeps number old new left n d role params h =
-    subst (λ s. IsRunning role params (record { number = number; sender = s }) left) (sym (still_same old new n d)) h
+    subst (λ s. IsRunning role params (record { number = number; sender = s }) left)
+    (sym (still_same old new n d)) h
 
 -- an answer was heard
-pub heard_exact : (ticks : TimerTicks) (message : Message) (number : ℕ) (old new : Sender) (heard : Heard) (left left' : Option ℕ) → sender_heard message old ≡ (new, heard) → left' ≡ sender_left ticks (sender_phase old) (sender_phase new) left → session_heard ticks message (shown (record { number = number; sender = old }) left) ≡ (shown (record { number = number; sender = new }) left', heard)
+pub heard_exact : (ticks : TimerTicks) (message : Message) (number : ℕ) (old new : Sender)
+    (heard : Heard) (left left' : Option ℕ) → sender_heard message old ≡ (new, heard)
+    → left' ≡ sender_left ticks (sender_phase old) (sender_phase new) left
+    → session_heard ticks message
+    (shown (record { number = number; sender = old }) left) ≡ (
+      shown
+          (record { number = number; sender = new }) left',
+      heard,
+    )
 unfolding session_heard session_moved
 heard_exact ticks message number old new heard left left' e l = rw (e, l) refl
 
 -- the session was given up
-pub aborted_exact : (ticks : TimerTicks) (number : ℕ) (old new : Sender) (heard : Heard) (left left' : Option ℕ) → sender_aborted old ≡ (new, heard) → left' ≡ sender_left ticks (sender_phase old) (sender_phase new) left → session_aborted ticks (shown (record { number = number; sender = old }) left) ≡ (shown (record { number = number; sender = new }) left', heard)
+pub aborted_exact : (ticks : TimerTicks) (number : ℕ) (old new : Sender) (heard : Heard)
+    (left left' : Option ℕ) → sender_aborted old ≡ (new, heard)
+    → left' ≡ sender_left ticks (sender_phase old) (sender_phase new) left
+    → session_aborted ticks
+    (shown (record { number = number; sender = old }) left) ≡ (
+      shown
+          (record { number = number; sender = new }) left',
+      heard,
+    )
 unfolding session_aborted session_moved
 aborted_exact ticks number old new heard left left' e l = rw (e, l) refl
 
 -- its timer was due
-row-of : (role : Role) (params : EndParams) (running : Option Running) (session : Running) (left : Option ℕ) → running ≡ Some session → AreRunning role params running left → IsRunning role params session left
+row-of : (role : Role) (params : EndParams) (running : Option Running) (session : Running)
+    (left : Option ℕ) → running ≡ Some session → AreRunning role params running left
+    → IsRunning role params session left
 row-of role params running session left e h = subst (λ o. AreRunning role params o left) e h
 
-pub fired_keeps_waiting : (ticks : TimerTicks) (running : Option Running) (session : Running) (new : Sender) (heard : Heard) (left' : Option ℕ) → running ≡ Some session → sender_phase session.sender ≡ Waiting → sender_retried session.sender ≡ (new, heard) → left' ≡ sender_left ticks Waiting (sender_phase new) None → (role : Role) (params : EndParams) (left : Option ℕ) → AreRunning role params running left → IsRunning role params (record { number = session.number; sender = new }) left'
+pub fired_keeps_waiting : (ticks : TimerTicks) (running : Option Running) (session : Running)
+    (new : Sender) (heard : Heard) (left' : Option ℕ) → running ≡ Some session
+    → sender_phase session.sender ≡ Waiting → sender_retried session.sender ≡ (new, heard)
+    → left' ≡ sender_left ticks Waiting (sender_phase new) None
+    → (role : Role) (params : EndParams) (left : Option ℕ) → AreRunning role params running left
+    → IsRunning role params (record { number = session.number; sender = new }) left'
 fired_keeps_waiting ticks running session new heard left' r w e l role params left h =
     let was = row-of role params running session left r h in
     let goes = subst (λ step. GoesOn session.sender step.0) e (retried_goes session.sender) in
-    let leaves = subst (λ step. is_armed (sender_left ticks Waiting (sender_phase step.0) None) ≡ sender_timed (sender_phase step.0)) e (retried_leaves session.sender w ticks) in
+    let leaves =
+    subst (λ step. is_armed
+    (sender_left ticks Waiting (sender_phase step.0) None) ≡ sender_timed (sender_phase step.0))
+    e (retried_leaves session.sender w ticks) in
     record { row = goes.params ∙ was.row; mtu = goes.mtu ∙ was.mtu; timed = ap is_armed l ∙ leaves }
 
-pub fired_keeps_still : (running : Option Running) (session : Running) (left' : Option ℕ) → running ≡ Some session → sender_timed (sender_phase session.sender) ≡ false → left' ≡ None → (role : Role) (params : EndParams) (left : Option ℕ) → AreRunning role params running left → IsRunning role params session left'
+pub fired_keeps_still : (running : Option Running) (session : Running) (left' : Option ℕ)
+    → running ≡ Some session → sender_timed (sender_phase session.sender) ≡ false → left' ≡ None
+    → (role : Role) (params : EndParams) (left : Option ℕ) → AreRunning role params running left
+    → IsRunning role params session left'
 fired_keeps_still running session left' r p l role params left h =
     let was = row-of role params running session left r h in
     record { row = was.row; mtu = was.mtu; timed = ap is_armed l ∙ sym p }
 
 -- a message was taken
-pub left_of_set : (c : Clock) (left : Option ℕ) (clocks : ClocksData) → left_of c (set_clock c left clocks) ≡ left
+pub left_of_set : (c : Clock) (left : Option ℕ) (clocks : ClocksData)
+    → left_of c (set_clock c left clocks) ≡ left
 left_of_set clock.Sending left clocks = refl
 left_of_set clock.Answering left clocks = refl
 left_of_set clock.Silent left clocks = refl
 
-pub taken_exact : (ticks : TimerTicks) (message : Message) (payload : List Bool) (old new : Receiver) (note : Note) (before after : ReceiverPhase) (c : Clock) (clocks clocks' : ClocksData) → receiver_taken message payload old ≡ (new, note) → before ≡ receiver_phase old → after ≡ receiver_phase new → clocks' ≡ set_clock c (receiver_left ticks before after note (left_of c clocks)) clocks → reception_taken ticks message payload (record { receiver = old; left = left_of c clocks }) ≡ (record { receiver = new; left = left_of c clocks' }, note)
+pub taken_exact : (ticks : TimerTicks) (message : Message) (payload : List Bool)
+    (old new : Receiver) (note : Note) (before after : ReceiverPhase) (c : Clock)
+    (clocks clocks' : ClocksData) → receiver_taken message payload old ≡ (new, note)
+    → before ≡ receiver_phase old → after ≡ receiver_phase new
+    → clocks' ≡ set_clock c (receiver_left ticks before after note (left_of c clocks)) clocks
+    → reception_taken ticks message payload
+    (record { receiver = old; left = left_of c clocks }) ≡ (
+      record
+          { receiver = new; left = left_of c clocks' },
+      note,
+    )
 unfolding reception_taken
 taken_exact ticks message payload old new note before after c clocks clocks' e b a l =
-    rw (e, l, b, a, left_of_set c (receiver_left ticks (receiver_phase old) (receiver_phase new) note (left_of c clocks)) clocks) refl
+    rw (
+      e,
+      l,
+      b,
+      a,
+      left_of_set c
+          (receiver_left ticks (receiver_phase old) (receiver_phase new) note (left_of c clocks))
+          clocks,
+    ) refl

@@ -14,11 +14,26 @@ use Rattle.frag_wire.specs.Spells.{Spells, IsWireFault, reading_in}
 use Rattle.frag_wire.specs.declared.message.Message.{Message}
 use Rattle.frag_wire.proofs.ReadingLemmas.{reading-spelled, reading-refused}
 
-pub read_is : (params : FragParams) (way : Side) (bytes : List ℕ) (read : Result Message WireFault) → IfOk read (λ message. Spells params way message (payload_in message (octets bytes)) bytes) → IfErr read (λ fault. IsWireFault params way bytes fault) → read ≡ reading_in params.mode way bytes
-read_is params way bytes (Ok message) h k = sym (reading-spelled params.mode way message (payload_in message (octets bytes)) bytes h).0
+pub read_is : (params : FragParams) (way : Side) (bytes : List ℕ) (read : Result Message WireFault)
+    → IfOk read (λ message. Spells params way message (payload_in message (octets bytes)) bytes)
+    → IfErr read (λ fault. IsWireFault params way bytes fault)
+    → read ≡ reading_in params.mode way bytes
+read_is params way bytes (Ok message) h k =
+    sym (reading-spelled params.mode way message (payload_in message (octets bytes)) bytes h).0
 read_is params way bytes (Err fault) h k = sym (reading-refused params.mode way fault bytes k)
 
 -- what is read is an answer to what an end sends
-pub is_answer : (role : Role) (params : FragParams) (bytes : List ℕ) (message : Message) (read : Result Message WireFault) → read ≡ Ok message → IfOk read (λ message. Spells params side.Answers message (payload_in message (octets bytes)) bytes) → (sending_of role true).1 ≡ params → IsAnswer (sending_of role true).1 message
+pub is_answer : (role : Role) (params : FragParams) (bytes : List ℕ) (message : Message)
+    (read : Result Message WireFault) → read ≡ Ok message
+    → IfOk read
+    (λ message. Spells params side.Answers message (payload_in message (octets bytes)) bytes)
+    → (sending_of role true).1 ≡ params → IsAnswer (sending_of role true).1 message
 is_answer role params bytes message read r h p =
-    subst (λ p. IsAnswer p message) (sym p) (bytes, subst (λ read. IfOk read (λ message. Spells params side.Answers message (payload_in message (octets bytes)) bytes)) r h)
+    subst (λ p. IsAnswer p message) (sym p) (
+      bytes,
+      subst
+          (λ read. IfOk read
+          (λ message. Spells params side.Answers message (payload_in message (octets bytes)) bytes))
+          r
+          h,
+    )

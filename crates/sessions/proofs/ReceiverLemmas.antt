@@ -1,5 +1,6 @@
 -- What the steps of a receiver keep: its mode, and that its timer runs where it should.
-use Rattle.std.specs.Prelude.{ℕ, ◌≡◌, Bool, true, false, if◌then◌else◌, List, Option, Some, None, option_map}
+use Rattle.std.specs.Prelude.{ℕ, ◌≡◌, Bool, true, false, if◌then◌else◌, List, Option, Some, None}
+use Rattle.std.specs.Prelude.{option_map}
 use Rattle.std.proofs.Common.{refl, sym, ap, ◌∙◌, subst}
 use Rattle.schc_ids.specs.Fragments.{params_of}
 use Rattle.schc_ids.specs.declared.ends.Role.{Role}
@@ -21,23 +22,29 @@ use Rattle.schc_ids.specs.Ends.{other_role}
 use Rattle.timers.specs.Timers.{ticked, is_due}
 use Rattle.sessions.specs.Clocks.{unless_due}
 use Rattle.sessions.specs.Holds.{is_armed, receiver_timed, IsReceiving}
-use Rattle.sessions.specs.Receivers.{receiver_mode, receiver_phase, receiver_taken, receiver_idled, receiver_lapsed, receiver_due, receiver_answered}
-use Rattle.sessions.specs.Reception.{Reception, receiver_left, receiver_ticks, same_receiver_phase, is_remnant, receiver_fired, reception_taken}
+use Rattle.sessions.specs.Receivers.{receiver_mode, receiver_phase, receiver_taken, receiver_idled}
+use Rattle.sessions.specs.Receivers.{receiver_lapsed, receiver_due, receiver_answered}
+use Rattle.sessions.specs.Reception.{Reception, receiver_left, receiver_ticks, same_receiver_phase}
+use Rattle.sessions.specs.Reception.{is_remnant, receiver_fired, reception_taken}
 use Rattle.sessions.specs.declared.receivers.Receiver.{Receiver}
 use Rattle.sessions.specs.declared.receivers.Receiver.TheVariants.{NoAck, AckAlways, AckOnError}
 
-pub taken_mode : (message : Message) (payload : List Bool) (r : Receiver) → receiver_mode (receiver_taken message payload r).0 ≡ receiver_mode r
+pub taken_mode : (message : Message) (payload : List Bool) (r : Receiver)
+    → receiver_mode (receiver_taken message payload r).0 ≡ receiver_mode r
 unfolding receiver_taken
 taken_mode message payload (NoAck r) = refl
 taken_mode message payload (AckAlways r) = refl
 taken_mode message payload (AckOnError r) = refl
 
-armed-ticks : (ticks : TimerTicks) (after : ReceiverPhase) → is_armed (receiver_ticks ticks after) ≡ receiver_timed after
+armed-ticks : (ticks : TimerTicks) (after : ReceiverPhase)
+    → is_armed (receiver_ticks ticks after) ≡ receiver_timed after
 armed-ticks ticks phase.Empty = refl
 armed-ticks ticks phase.Gathering = refl
 armed-ticks ticks phase.Finished = refl
 
-left-if : (ticks : TimerTicks) (before after : ReceiverPhase) (left : Option ℕ) (same : Bool) → same_receiver_phase before after ≡ same → is_armed left ≡ receiver_timed before → is_armed (if same then left else receiver_ticks ticks after) ≡ receiver_timed after
+left-if : (ticks : TimerTicks) (before after : ReceiverPhase) (left : Option ℕ) (same : Bool)
+    → same_receiver_phase before after ≡ same → is_armed left ≡ receiver_timed before
+    → is_armed (if same then left else receiver_ticks ticks after) ≡ receiver_timed after
 left-if ticks before after left false s h = armed-ticks ticks after
 left-if ticks phase.Empty phase.Empty left true s h = h
 left-if ticks phase.Empty phase.Gathering left true s h = absurd cc
@@ -49,16 +56,27 @@ left-if ticks phase.Finished phase.Empty left true s h = absurd cc
 left-if ticks phase.Finished phase.Gathering left true s h = absurd cc
 left-if ticks phase.Finished phase.Finished left true s h = h
 
-left-remnant : (ticks : TimerTicks) (before after : ReceiverPhase) (note : Note) (left : Option ℕ) (remnant : Bool) → is_remnant note ≡ remnant → is_armed left ≡ receiver_timed before → is_armed (receiver_left ticks before after note left) ≡ receiver_timed after
+left-remnant : (ticks : TimerTicks) (before after : ReceiverPhase) (note : Note) (left : Option ℕ)
+    (remnant : Bool) → is_remnant note ≡ remnant → is_armed left ≡ receiver_timed before
+    → is_armed (receiver_left ticks before after note left) ≡ receiver_timed after
 unfolding receiver_left
-left-remnant ticks before after note left true r h = rw r (left-if ticks before after left (same_receiver_phase before after) refl h)
+left-remnant ticks before after note left true r h =
+    rw r (left-if ticks before after left (same_receiver_phase before after) refl h)
 left-remnant ticks before after note left false r h = rw r (armed-ticks ticks after)
 
-pub received_timed : (ticks : TimerTicks) (before after : ReceiverPhase) (note : Note) (left : Option ℕ) → is_armed left ≡ receiver_timed before → is_armed (receiver_left ticks before after note left) ≡ receiver_timed after
-received_timed ticks before after note left h = left-remnant ticks before after note left (is_remnant note) refl h
+pub received_timed : (ticks : TimerTicks) (before after : ReceiverPhase) (note : Note)
+    (left : Option ℕ) → is_armed left ≡ receiver_timed before
+    → is_armed (receiver_left ticks before after note left) ≡ receiver_timed after
+received_timed ticks before after note left h =
+    left-remnant ticks before after note left (is_remnant note) refl h
 
 -- a message was taken
-pub taken_keeps : (ticks : TimerTicks) (message : Message) (payload : List Bool) (old new : Receiver) (left left' : Option ℕ) (note : Note) → reception_taken ticks message payload (record { receiver = old; left = left }) ≡ (record { receiver = new; left = left' }, note) → (role : Role) (acked : Bool) → IsReceiving role acked old left → IsReceiving role acked new left'
+pub taken_keeps : (ticks : TimerTicks) (message : Message) (payload : List Bool)
+    (old new : Receiver) (left left' : Option ℕ) (note : Note)
+    → reception_taken ticks message payload
+    (record { receiver = old; left = left }) ≡ (record { receiver = new; left = left' }, note)
+    → (role : Role) (acked : Bool) → IsReceiving role acked old left
+    → IsReceiving role acked new left'
 unfolding reception_taken
 taken_keeps ticks message payload old new left left' note e role acked h =
     let r = ap (λ step. step.0.receiver) e in
@@ -66,7 +84,9 @@ taken_keeps ticks message payload old new left left' note e role acked h =
       row = ap receiver_mode (sym r) ∙ taken_mode message payload old ∙ h.row;
       timed =
           ap is_armed (sym l)
-          ∙ received_timed ticks (receiver_phase old) (receiver_phase (receiver_taken message payload old).0) (receiver_taken message payload old).1 left h.timed
+          ∙ received_timed ticks (receiver_phase old)
+          (receiver_phase (receiver_taken message payload old).0)
+          (receiver_taken message payload old).1 left h.timed
           ∙ ap (λ x. receiver_timed (receiver_phase x)) r;
     }
 
@@ -87,13 +107,20 @@ answered-mode (NoAck r) = refl
 answered-mode (AckAlways r) = refl
 answered-mode (AckOnError r) = refl
 
-pub answered_keeps : (role : Role) (acked : Bool) (r : Receiver) (left : Option ℕ) → IsReceiving role acked r left → IsReceiving role acked (receiver_answered r) left
+pub answered_keeps : (role : Role) (acked : Bool) (r : Receiver) (left : Option ℕ)
+    → IsReceiving role acked r left → IsReceiving role acked (receiver_answered r) left
 answered_keeps role acked r left h =
-    record { row = answered-mode r ∙ h.row; timed = h.timed ∙ ap receiver_timed (sym (answered-phase r)) }
+    record {
+      row = answered-mode r ∙ h.row;
+      timed = h.timed
+          ∙ ap receiver_timed (sym (answered-phase r));
+    }
 
 -- the timer was due
 fired-phase : (r : Receiver) → receiver_phase (receiver_fired (receiver_phase r) r) ≡ phase.Empty
-unfolding receiver_phase receiver_fired receiver_idled receiver_lapsed no_ack_step.idled no_ack_step.lapsed aa_step.idled aa_step.lapsed aoe_step.idled aoe_step.lapsed aoe.receiver_phase
+unfolding receiver_phase receiver_fired receiver_idled receiver_lapsed no_ack_step.idled
+    no_ack_step.lapsed aa_step.idled aa_step.lapsed aoe_step.idled aoe_step.lapsed
+    aoe.receiver_phase
 fired-phase (NoAck no_ack.Empty) = refl
 fired-phase (NoAck (no_ack.Gathering kept)) = refl
 fired-phase (AckAlways (aa.Empty abort)) = refl
@@ -103,7 +130,8 @@ fired-phase (AckOnError (aoe.Empty abort)) = refl
 fired-phase (AckOnError (aoe.Gathering tiles kept answer)) = refl
 fired-phase (AckOnError (aoe.Finished tiles last answer)) = refl
 
-fired-mode : (p : ReceiverPhase) (r : Receiver) → receiver_mode (receiver_fired p r) ≡ receiver_mode r
+fired-mode : (p : ReceiverPhase) (r : Receiver)
+    → receiver_mode (receiver_fired p r) ≡ receiver_mode r
 unfolding receiver_fired receiver_idled receiver_lapsed
 fired-mode phase.Empty r = refl
 fired-mode phase.Gathering (NoAck r) = refl
@@ -117,14 +145,28 @@ pub ticked_armed : (left : Option ℕ) → is_armed (ticked left) ≡ is_armed l
 ticked_armed None = refl
 ticked_armed (Some left) = refl
 
-fired-if : (role : Role) (acked : Bool) (r : Receiver) (left : Option ℕ) (due : Bool) → is_armed left ≡ receiver_timed (receiver_phase r) → receiver_mode r ≡ (sending_of (other_role role) acked).1.mode → IsReceiving role acked (if due then receiver_fired (receiver_phase r) r else r) (if due then None else left)
-fired-if role acked r left true t m = record { row = fired-mode (receiver_phase r) r ∙ m; timed = ap receiver_timed (sym (fired-phase r)) }
+fired-if : (role : Role) (acked : Bool) (r : Receiver) (left : Option ℕ) (due : Bool)
+    → is_armed left ≡ receiver_timed (receiver_phase r)
+    → receiver_mode r ≡ (sending_of (other_role role) acked).1.mode
+    → IsReceiving role acked (if due then receiver_fired (receiver_phase r) r else r)
+    (if due then None else left)
+fired-if role acked r left true t m =
+    record {
+      row = fired-mode (receiver_phase r) r ∙ m;
+      timed =
+          ap receiver_timed (sym (fired-phase r));
+    }
 fired-if role acked r left false t m = record { row = m; timed = t }
 
-pub ticked_keeps : (role : Role) (acked : Bool) (old new : Receiver) (left left' : Option ℕ) (due : Bool) → new ≡ (if due then receiver_fired (receiver_phase old) old else old) → due ≡ is_due (ticked left) → left' ≡ unless_due (ticked left) → IsReceiving role acked old left → IsReceiving role acked new left'
+pub ticked_keeps : (role : Role) (acked : Bool) (old new : Receiver) (left left' : Option ℕ)
+    (due : Bool) → new ≡ (if due then receiver_fired (receiver_phase old) old else old)
+    → due ≡ is_due (ticked left) → left' ≡ unless_due (ticked left)
+    → IsReceiving role acked old left → IsReceiving role acked new left'
 unfolding unless_due
 ticked_keeps role acked old new left left' due n d l h =
-    rw (n, l, d) (fired-if role acked old (ticked left) (is_due (ticked left)) (ticked_armed left ∙ h.timed) h.row)
+    rw (n, l, d)
+    (fired-if role acked old (ticked left) (is_due (ticked left)) (ticked_armed left ∙ h.timed)
+    h.row)
 
 -- where nothing is due, nothing changes
 still-aa : (r : aa.AaReceiverData) → aa_step.due_bytes r ≡ None → aa_step.answered r ≡ r

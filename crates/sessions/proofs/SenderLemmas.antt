@@ -1,5 +1,6 @@
 -- What the steps of a sender keep: its parameters, the bytes of its frames and its bits.
-use Rattle.std.specs.Prelude.{ℕ, ◌≡◌, ◌==◌, nat_le, nat_lt, Bool, true, false, List, [], ◌∷◌, Option, Some, None, option_map}
+use Rattle.std.specs.Prelude.{ℕ, ◌≡◌, ◌==◌, nat_le, nat_lt, Bool, true, false, List, [], ◌∷◌}
+use Rattle.std.specs.Prelude.{Option, Some, None, option_map}
 use Rattle.std.proofs.Common.{refl, ap}
 use Rattle.schc_bits.specs.Bits.{number_bits}
 use Rattle.schc_ids.specs.Limits.{max_ack_requests}
@@ -24,10 +25,13 @@ use Rattle.aa_sender.specs.declared.states.AaSenderState.{AaSenderState}
 use Rattle.aa_sender.specs.declared.states.AaSenderState.TheVariants as aas
 use Rattle.aoe_sender.specs.State as aoe
 use Rattle.aoe_sender.specs.Steps as aoe_step
-use Rattle.aoe_sender.specs.Steps.{moves, stays, asked_last, asked, confirmed, acked, heard_in, heard, repeated, retried_in, retried, aborted_in, aborted, sent}
+use Rattle.aoe_sender.specs.Steps.{moves, stays, asked_last, asked, confirmed, acked, heard_in}
+use Rattle.aoe_sender.specs.Steps.{heard, repeated, retried_in, retried, aborted_in, aborted, sent}
 use Rattle.aoe_sender.specs.Tiles.{regular_count, window_size, last_window}
 use Rattle.sessions.specs.Holds.{is_armed, sender_timed}
-use Rattle.sessions.specs.Senders.{sender_begun, sender_params, sender_mtu, sender_bits, sender_phase, sender_due, sender_sent, sender_heard, sender_retried, sender_aborted}
+use Rattle.sessions.specs.Senders.{sender_begun, sender_params, sender_mtu, sender_bits}
+use Rattle.sessions.specs.Senders.{sender_phase, sender_due, sender_sent, sender_heard}
+use Rattle.sessions.specs.Senders.{sender_retried, sender_aborted}
 use Rattle.sessions.specs.Session.{sender_left}
 use Rattle.sessions.specs.declared.senders.Sender.{Sender}
 use Rattle.sessions.specs.declared.senders.Sender.TheVariants.{NoAck, AckAlways, AckOnError}
@@ -38,7 +42,8 @@ record Stands (s t : aoe.AoeSenderData) : Type 0 where
   mtu : t.mtu ≡ s.mtu
   bits : t.bits ≡ s.bits
 
-stands-moves : (s : aoe.AoeSenderData) (state : aoe.AoeSenderState) (h : Heard) → Stands s (moves s state h).0
+stands-moves : (s : aoe.AoeSenderData) (state : aoe.AoeSenderState) (h : Heard)
+    → Stands s (moves s state h).0
 unfolding moves
 stands-moves s state h = record { params = refl; mtu = refl; bits = refl }
 
@@ -46,13 +51,15 @@ stands-stays : (s : aoe.AoeSenderData) → Stands s (stays s).0
 unfolding stays
 stands-stays s = record { params = refl; mtu = refl; bits = refl }
 
-stands-asked_last : (s : aoe.AoeSenderData) (numbers : List ℕ) (came : Bool) → Stands s (asked_last s numbers came).0
+stands-asked_last : (s : aoe.AoeSenderData) (numbers : List ℕ) (came : Bool)
+    → Stands s (asked_last s numbers came).0
 unfolding asked_last
 stands-asked_last s [] true = stands-moves s _ _
 stands-asked_last s [] false = stands-moves s _ _
 stands-asked_last s (number ∷ numbers) came = stands-moves s _ _
 
-stands-asked : (s : aoe.AoeSenderData) (w : ℕ) (bits : List Bool) (x y : Bool) → Stands s (asked s w bits x y).0
+stands-asked : (s : aoe.AoeSenderData) (w : ℕ) (bits : List Bool) (x y : Bool)
+    → Stands s (asked s w bits x y).0
 unfolding asked
 stands-asked s w bits true y = stands-asked_last s _ _
 stands-asked s w bits false true = stands-moves s _ _
@@ -63,12 +70,14 @@ unfolding confirmed
 stands-confirmed s true = stands-moves s _ _
 stands-confirmed s false = stands-stays s
 
-stands-acked : (s : aoe.AoeSenderData) (w : ℕ) (c : Bool) (bitmap : ℕ) → Stands s (acked s w c bitmap).0
+stands-acked : (s : aoe.AoeSenderData) (w : ℕ) (c : Bool) (bitmap : ℕ)
+    → Stands s (acked s w c bitmap).0
 unfolding acked
 stands-acked s w true bitmap = stands-confirmed s _
 stands-acked s w false bitmap = stands-asked s w _ _ _
 
-stands-heard_in : (message : Message) (s : aoe.AoeSenderData) (state : aoe.AoeSenderState) → Stands s (heard_in message s state).0
+stands-heard_in : (message : Message) (s : aoe.AoeSenderData) (state : aoe.AoeSenderState)
+    → Stands s (heard_in message s state).0
 unfolding heard_in
 stands-heard_in (form.Ack w c bitmap) s (aoe.Waiting attempts) = stands-acked s w c bitmap
 stands-heard_in (form.Ack w c bitmap) s (aoe.Sending numbers attempts) = stands-stays s
@@ -83,19 +92,22 @@ stands-heard_in (form.All1 w rcs from) s state = stands-stays s
 stands-heard_in (form.AckReq w) s state = stands-stays s
 stands-heard_in form.SenderAbort s state = stands-stays s
 
-stands-repeated : (s : aoe.AoeSenderData) (attempts : ℕ) (more : Bool) → Stands s (repeated s attempts more).0
+stands-repeated : (s : aoe.AoeSenderData) (attempts : ℕ) (more : Bool)
+    → Stands s (repeated s attempts more).0
 unfolding repeated
 stands-repeated s attempts true = stands-moves s _ _
 stands-repeated s attempts false = stands-moves s _ _
 
-stands-retried_in : (s : aoe.AoeSenderData) (state : aoe.AoeSenderState) → Stands s (retried_in s state).0
+stands-retried_in : (s : aoe.AoeSenderData) (state : aoe.AoeSenderState)
+    → Stands s (retried_in s state).0
 unfolding retried_in
 stands-retried_in s (aoe.Waiting attempts) = stands-repeated s attempts _
 stands-retried_in s (aoe.Sending numbers attempts) = stands-stays s
 stands-retried_in s aoe.Closing = stands-stays s
 stands-retried_in s aoe.Quiet = stands-stays s
 
-stands-aborted_in : (s : aoe.AoeSenderData) (state : aoe.AoeSenderState) → Stands s (aborted_in s state).0
+stands-aborted_in : (s : aoe.AoeSenderData) (state : aoe.AoeSenderState)
+    → Stands s (aborted_in s state).0
 unfolding aborted_in
 stands-aborted_in s (aoe.Waiting attempts) = stands-moves s _ _
 stands-aborted_in s (aoe.Sending numbers attempts) = stands-moves s _ _
@@ -136,56 +148,70 @@ aborted_goes (AckAlways s) = record { params = refl; mtu = refl; bits = refl }
 aborted_goes (AckOnError s) = from-stands s _ (stands-aborted_in s s.state)
 
 -- a session that begins is sending, and a message is due
-pub begun_params : (m : FragMode) (params : FragParams) (mtu : ℕ) (last : LastTile) (bits : List Bool) → sender_params (sender_begun m params mtu last bits) ≡ params
+pub begun_params : (m : FragMode) (params : FragParams) (mtu : ℕ) (last : LastTile)
+    (bits : List Bool) → sender_params (sender_begun m params mtu last bits) ≡ params
 unfolding sender_begun aoe_step.begun
 begun_params mode.NoAck params mtu last bits = refl
 begun_params mode.AckAlways params mtu last bits = refl
 begun_params mode.AckOnError params mtu last bits = refl
 
-pub begun_mtu : (m : FragMode) (params : FragParams) (mtu : ℕ) (last : LastTile) (bits : List Bool) → sender_mtu (sender_begun m params mtu last bits) ≡ mtu
+pub begun_mtu : (m : FragMode) (params : FragParams) (mtu : ℕ) (last : LastTile) (bits : List Bool)
+    → sender_mtu (sender_begun m params mtu last bits) ≡ mtu
 unfolding sender_begun aoe_step.begun
 begun_mtu mode.NoAck params mtu last bits = refl
 begun_mtu mode.AckAlways params mtu last bits = refl
 begun_mtu mode.AckOnError params mtu last bits = refl
 
-pub begun_bits : (m : FragMode) (params : FragParams) (mtu : ℕ) (last : LastTile) (bits : List Bool) → sender_bits (sender_begun m params mtu last bits) ≡ bits
+pub begun_bits : (m : FragMode) (params : FragParams) (mtu : ℕ) (last : LastTile) (bits : List Bool)
+    → sender_bits (sender_begun m params mtu last bits) ≡ bits
 unfolding sender_begun aoe_step.begun
 begun_bits mode.NoAck params mtu last bits = refl
 begun_bits mode.AckAlways params mtu last bits = refl
 begun_bits mode.AckOnError params mtu last bits = refl
 
-pub begun_phase : (m : FragMode) (params : FragParams) (mtu : ℕ) (last : LastTile) (bits : List Bool) → sender_phase (sender_begun m params mtu last bits) ≡ phase.Sending
+pub begun_phase : (m : FragMode) (params : FragParams) (mtu : ℕ) (last : LastTile)
+    (bits : List Bool) → sender_phase (sender_begun m params mtu last bits) ≡ phase.Sending
 unfolding sender_begun sender_phase aoe_step.begun aoe_step.sender_phase aoe_step.phase_in
 begun_phase mode.NoAck params mtu last bits = refl
 begun_phase mode.AckAlways params mtu last bits = refl
 begun_phase mode.AckOnError params mtu last bits = refl
 
-due-aoe : (s : aoe.AoeSenderData) (numbers : List ℕ) → option_map (λ due. written s.params due.0 due.1) (aoe_step.due_in s (aoe.Sending numbers 0)) ≡ None → ⊥
+due-aoe : (s : aoe.AoeSenderData) (numbers : List ℕ)
+    → option_map (λ due. written s.params due.0 due.1)
+    (aoe_step.due_in s (aoe.Sending numbers 0)) ≡ None → ⊥
 unfolding aoe_step.due_in
 due-aoe s [] e = absurd cc
 due-aoe s (number ∷ numbers) e = absurd cc
 
-pub begun_due : (m : FragMode) (params : FragParams) (mtu : ℕ) (last : LastTile) (bits : List Bool) → sender_due (sender_begun m params mtu last bits) ≡ None → ⊥
-unfolding sender_begun sender_due aoe_step.begun aoe_step.due_bytes aoe_step.due_message no_ack_step.due_message no_ack_step.due_in aa_step.due_message aa_step.due_in
+pub begun_due : (m : FragMode) (params : FragParams) (mtu : ℕ) (last : LastTile) (bits : List Bool)
+    → sender_due (sender_begun m params mtu last bits) ≡ None → ⊥
+unfolding sender_begun sender_due aoe_step.begun aoe_step.due_bytes aoe_step.due_message
+    no_ack_step.due_message no_ack_step.due_in aa_step.due_message aa_step.due_in
 begun_due mode.NoAck params mtu last bits e = absurd cc
 begun_due mode.AckAlways params mtu last bits e = absurd cc
 begun_due mode.AckOnError params mtu last bits e = due-aoe _ _ e
 
 -- where nothing is due, nothing changes
-still-no_ack : (s : no_ack.NoAckSenderData) (state : NoAckSenderState) → s.state ≡ state → option_map (no_ack_step.bytes_due s.params) (no_ack_step.due_in s state) ≡ None → no_ack_step.sent_in (no_ack.last_index s) state ≡ state
+still-no_ack : (s : no_ack.NoAckSenderData) (state : NoAckSenderState) → s.state ≡ state
+    → option_map (no_ack_step.bytes_due s.params) (no_ack_step.due_in s state) ≡ None
+    → no_ack_step.sent_in (no_ack.last_index s) state ≡ state
 unfolding no_ack_step.due_in no_ack_step.sent_in
 still-no_ack s (na.Sending i) h e = absurd cc
 still-no_ack s na.Closing h e = absurd cc
 still-no_ack s na.Quiet h e = refl
 
-still-aa : (s : aa.AaSenderData) (state : AaSenderState) → option_map (aa_step.bytes_due s.params) (aa_step.due_in s state) ≡ None → aa_step.sent_in state ≡ state
+still-aa : (s : aa.AaSenderData) (state : AaSenderState)
+    → option_map (aa_step.bytes_due s.params) (aa_step.due_in s state) ≡ None
+    → aa_step.sent_in state ≡ state
 unfolding aa_step.due_in aa_step.sent_in
 still-aa s (aas.Sending i ack_req attempts) e = absurd cc
 still-aa s (aas.Waiting i attempts) e = refl
 still-aa s aas.Closing e = absurd cc
 still-aa s aas.Quiet e = refl
 
-still-aoe : (s : aoe.AoeSenderData) (state : aoe.AoeSenderState) → option_map (λ due. written s.params due.0 due.1) (aoe_step.due_in s state) ≡ None → aoe_step.sent_in s state ≡ state
+still-aoe : (s : aoe.AoeSenderData) (state : aoe.AoeSenderState)
+    → option_map (λ due. written s.params due.0 due.1) (aoe_step.due_in s state) ≡ None
+    → aoe_step.sent_in s state ≡ state
 unfolding aoe_step.due_in aoe_step.sent_in
 still-aoe s (aoe.Sending [] attempts) e = absurd cc
 still-aoe s (aoe.Sending (number ∷ numbers) attempts) e = absurd cc
@@ -194,14 +220,19 @@ still-aoe s aoe.Closing e = absurd cc
 still-aoe s aoe.Quiet e = refl
 
 pub sent_still : (s : Sender) → sender_due s ≡ None → sender_sent s ≡ s
-unfolding sender_due sender_sent no_ack_step.due_message aa_step.due_message aoe_step.due_bytes aoe_step.due_message no_ack_step.sent aa_step.sent sent
-sent_still (NoAck s) e = ap (λ state. NoAck (record s { state = state })) (still-no_ack s s.state refl e)
-sent_still (AckAlways s) e = ap (λ state. AckAlways (record s { state = state })) (still-aa s s.state e)
-sent_still (AckOnError s) e = ap (λ state. AckOnError (record s { state = state })) (still-aoe s s.state e)
+unfolding sender_due sender_sent no_ack_step.due_message aa_step.due_message aoe_step.due_bytes
+    aoe_step.due_message no_ack_step.sent aa_step.sent sent
+sent_still (NoAck s) e =
+    ap (λ state. NoAck (record s { state = state })) (still-no_ack s s.state refl e)
+sent_still (AckAlways s) e =
+    ap (λ state. AckAlways (record s { state = state })) (still-aa s s.state e)
+sent_still (AckOnError s) e =
+    ap (λ state. AckOnError (record s { state = state })) (still-aoe s s.state e)
 
 -- a sender that isn't answered leaves Waiting
 abbrev Leaves : SenderPhase → Type 0
-Leaves after = (ticks : TimerTicks) → is_armed (sender_left ticks phase.Waiting after None) ≡ sender_timed after
+Leaves after = (ticks : TimerTicks)
+    → is_armed (sender_left ticks phase.Waiting after None) ≡ sender_timed after
 
 leaves-sending : Leaves phase.Sending
 unfolding sender_left
@@ -211,36 +242,45 @@ leaves-closing : Leaves phase.Closing
 unfolding sender_left
 leaves-closing ticks = refl
 
-leaves-waiting-aa : (last i attempts : ℕ) (spent : Bool) → Leaves (aa.phase_in (aa_step.retried_waiting last i attempts spent).0)
+leaves-waiting-aa : (last i attempts : ℕ) (spent : Bool)
+    → Leaves (aa.phase_in (aa_step.retried_waiting last i attempts spent).0)
 unfolding aa_step.retried_waiting
 leaves-waiting-aa last i attempts true = leaves-closing
 leaves-waiting-aa last i attempts false = leaves-sending
 
-leaves-waiting-aoe : (s : aoe.AoeSenderData) (attempts : ℕ) (more : Bool) → Leaves (aoe_step.phase_in (repeated s attempts more).0.state)
+leaves-waiting-aoe : (s : aoe.AoeSenderData) (attempts : ℕ) (more : Bool)
+    → Leaves (aoe_step.phase_in (repeated s attempts more).0.state)
 unfolding repeated moves aoe_step.phase_in
 leaves-waiting-aoe s attempts true = leaves-sending
 leaves-waiting-aoe s attempts false = leaves-closing
 
-leaves-aa : (s : aa.AaSenderData) (last : ℕ) (state : AaSenderState) → aa.phase_in state ≡ phase.Waiting → Leaves (aa.phase_in (aa_step.retried_in last state).0)
+leaves-aa : (s : aa.AaSenderData) (last : ℕ) (state : AaSenderState)
+    → aa.phase_in state ≡ phase.Waiting → Leaves (aa.phase_in (aa_step.retried_in last state).0)
 unfolding aa_step.retried_in
 leaves-aa s last (aas.Sending i ack_req attempts) w = absurd cc
-leaves-aa s last (aas.Waiting i attempts) w = leaves-waiting-aa last i attempts (nat_le max_ack_requests attempts)
+leaves-aa s last (aas.Waiting i attempts) w =
+    leaves-waiting-aa last i attempts (nat_le max_ack_requests attempts)
 leaves-aa s last aas.Closing w = absurd cc
 leaves-aa s last aas.Quiet w = absurd cc
 
-leaves-aoe : (s : aoe.AoeSenderData) (state : aoe.AoeSenderState) → aoe_step.phase_in state ≡ phase.Waiting → Leaves (aoe_step.phase_in (retried_in s state).0.state)
+leaves-aoe : (s : aoe.AoeSenderData) (state : aoe.AoeSenderState)
+    → aoe_step.phase_in state ≡ phase.Waiting
+    → Leaves (aoe_step.phase_in (retried_in s state).0.state)
 unfolding retried_in stays aoe_step.phase_in
 leaves-aoe s (aoe.Sending numbers attempts) w = absurd cc
-leaves-aoe s (aoe.Waiting attempts) w = leaves-waiting-aoe s attempts (nat_lt attempts max_ack_requests)
+leaves-aoe s (aoe.Waiting attempts) w =
+    leaves-waiting-aoe s attempts (nat_lt attempts max_ack_requests)
 leaves-aoe s aoe.Closing w = absurd cc
 leaves-aoe s aoe.Quiet w = absurd cc
 
-leaves-no_ack : (state : NoAckSenderState) → no_ack.phase_in state ≡ phase.Waiting → Leaves (no_ack.phase_in state)
+leaves-no_ack : (state : NoAckSenderState) → no_ack.phase_in state ≡ phase.Waiting
+    → Leaves (no_ack.phase_in state)
 leaves-no_ack (na.Sending i) w = absurd cc
 leaves-no_ack na.Closing w = absurd cc
 leaves-no_ack na.Quiet w = absurd cc
 
-pub retried_leaves : (s : Sender) → sender_phase s ≡ phase.Waiting → Leaves (sender_phase (sender_retried s).0)
+pub retried_leaves : (s : Sender) → sender_phase s ≡ phase.Waiting
+    → Leaves (sender_phase (sender_retried s).0)
 unfolding sender_phase sender_retried aa_step.retried retried aoe_step.sender_phase
 retried_leaves (NoAck s) w = leaves-no_ack s.state w
 retried_leaves (AckAlways s) w = leaves-aa s (aa.last_index s) s.state w

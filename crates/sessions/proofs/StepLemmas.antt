@@ -16,14 +16,17 @@ use Rattle.sessions.specs.Holds.{is_armed, sender_timed, IsReceiving}
 use Rattle.sessions.specs.Receivers.{new_receiver, receiver_phase}
 use Rattle.sessions.specs.Data.{session_of}
 use Rattle.sessions.specs.Senders.{sender_phase, sender_retried}
-use Rattle.sessions.specs.Session.{sender_left, session_moved, session_fired, fired_in, heard_kind, reported}
+use Rattle.sessions.specs.Session.{sender_left, session_moved, session_fired, fired_in, heard_kind}
+use Rattle.sessions.specs.Session.{reported}
 use Rattle.sessions.specs.Steps.{fired_session}
 use Rattle.sessions.specs.declared.receivers.Receiver.{Receiver}
 use Rattle.sessions.specs.declared.senders.Sender.{Sender}
 use Rattle.sessions.specs.declared.moves.Running.{Running}
 
 -- the timer runs where it should, after a step as before
-pub left_timed : (ticks : TimerTicks) (before after : SenderPhase) (left : Option ℕ) → is_armed left ≡ sender_timed before → is_armed (sender_left ticks before after left) ≡ sender_timed after
+pub left_timed : (ticks : TimerTicks) (before after : SenderPhase) (left : Option ℕ)
+    → is_armed left ≡ sender_timed before
+    → is_armed (sender_left ticks before after left) ≡ sender_timed after
 unfolding sender_left
 left_timed ticks Sending Sending left h = h
 left_timed ticks Sending Waiting left h = refl
@@ -43,29 +46,59 @@ left_timed ticks Quiet Closing left h = refl
 left_timed ticks Quiet Quiet left h = h
 
 -- a new receiver has the mode in which the other end sends, and no timer
-pub new_receives : (role : Role) (acked : Bool) → IsReceiving role acked (new_receiver (sending_of (other_role role) acked).1.mode) None
+pub new_receives : (role : Role) (acked : Bool)
+    → IsReceiving role acked (new_receiver (sending_of (other_role role) acked).1.mode) None
 unfolding new_receiver receiver_phase aoe_phase aoe_empty
 new_receives Device true = record { row = refl; timed = refl }
 new_receives Device false = record { row = refl; timed = refl }
 new_receives Gateway true = record { row = refl; timed = refl }
 new_receives Gateway false = record { row = refl; timed = refl }
 
-pub new_is : (role other : Role) (acked : Bool) (way : ℕ × FragParams) (receiver : Receiver) (left : Option ℕ) → other ≡ other_role role → way ≡ sending_of other acked → receiver ≡ new_receiver way.1.mode → left ≡ None → IsReceiving role acked receiver left
+pub new_is : (role other : Role) (acked : Bool) (way : ℕ × FragParams) (receiver : Receiver)
+    (left : Option ℕ) → other ≡ other_role role → way ≡ sending_of other acked
+    → receiver ≡ new_receiver way.1.mode → left ≡ None → IsReceiving role acked receiver left
 new_is role other acked way receiver left o w r l = rw (l, r, w, o) (new_receives role acked)
 
 -- the timer of the session is due, by where it stands
-pub fired_quiet : (ticks : TimerTicks) (running : Option Running) (session : Running) → running ≡ Some session → sender_phase session.sender ≡ Quiet → fired_session ticks (session_of running None) ≡ (None, None)
+pub fired_quiet : (ticks : TimerTicks) (running : Option Running) (session : Running)
+    → running ≡ Some session → sender_phase session.sender ≡ Quiet
+    → fired_session ticks (session_of running None) ≡ (None, None)
 unfolding session_fired fired_in
 fired_quiet ticks running session e p = rw (e, p) refl
 
-pub fired_sending : (ticks : TimerTicks) (running : Option Running) (session : Running) (left : Option ℕ) → running ≡ Some session → sender_phase session.sender ≡ Sending → left ≡ None → fired_session ticks (session_of running None) ≡ (Some (record { number = session.number; sender = session.sender; left = left }), None)
+pub fired_sending : (ticks : TimerTicks) (running : Option Running) (session : Running)
+    (left : Option ℕ) → running ≡ Some session → sender_phase session.sender ≡ Sending → left ≡ None
+    → fired_session ticks
+    (session_of running None) ≡ (
+      Some
+          (record { number = session.number; sender = session.sender; left = left }),
+      None,
+    )
 unfolding session_fired fired_in
 fired_sending ticks running session left e p l = rw (e, p, l) refl
 
-pub fired_closing : (ticks : TimerTicks) (running : Option Running) (session : Running) (left : Option ℕ) → running ≡ Some session → sender_phase session.sender ≡ Closing → left ≡ None → fired_session ticks (session_of running None) ≡ (Some (record { number = session.number; sender = session.sender; left = left }), None)
+pub fired_closing : (ticks : TimerTicks) (running : Option Running) (session : Running)
+    (left : Option ℕ) → running ≡ Some session → sender_phase session.sender ≡ Closing → left ≡ None
+    → fired_session ticks
+    (session_of running None) ≡ (
+      Some
+          (record { number = session.number; sender = session.sender; left = left }),
+      None,
+    )
 unfolding session_fired fired_in
 fired_closing ticks running session left e p l = rw (e, p, l) refl
 
-pub fired_waiting : (ticks : TimerTicks) (running : Option Running) (session : Running) (sender : Sender) (heard : Heard) (left : Option ℕ) (report : Option Report) → running ≡ Some session → sender_phase session.sender ≡ Waiting → sender_retried session.sender ≡ (sender, heard) → report ≡ reported session.number (heard_kind heard) → left ≡ sender_left ticks Waiting (sender_phase sender) None → fired_session ticks (session_of running None) ≡ (Some (record { number = session.number; sender = sender; left = left }), report)
+pub fired_waiting : (ticks : TimerTicks) (running : Option Running) (session : Running)
+    (sender : Sender) (heard : Heard) (left : Option ℕ) (report : Option Report)
+    → running ≡ Some session → sender_phase session.sender ≡ Waiting
+    → sender_retried session.sender ≡ (sender, heard)
+    → report ≡ reported session.number (heard_kind heard)
+    → left ≡ sender_left ticks Waiting (sender_phase sender) None
+    → fired_session ticks
+    (session_of running None) ≡ (
+      Some
+          (record { number = session.number; sender = sender; left = left }),
+      report,
+    )
 unfolding session_fired fired_in session_moved
 fired_waiting ticks running session sender heard left report e p h r l = rw (e, p, h, r, l, p) refl

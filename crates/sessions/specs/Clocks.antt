@@ -1,6 +1,8 @@
--- The timers of an end: one for the session that it sends, and one for each receiver. Each has the ticks that are left, or isn't
+-- The timers of an end: one for the session that it sends, and one for each receiver. Each has the
+-- ticks that are left, or isn't
 -- armed.
-use Rattle.std.specs.Prelude.{ℕ, ◌+◌, ◌==◌, Bool, true, false, ◌||◌, if◌then◌else◌, List, Option, Some, None, slice_index_or}
+use Rattle.std.specs.Prelude.{ℕ, ◌+◌, ◌==◌, Bool, true, false, ◌||◌, if◌then◌else◌, List, Option}
+use Rattle.std.specs.Prelude.{Some, None, slice_index_or}
 use Rattle.timers.specs.Timers.{ticked, is_due}
 use Rattle.sessions.specs.declared.clocks.Clock.{Clock}
 use Rattle.sessions.specs.declared.clocks.Clock.TheVariants.{Sending, Answering, Silent}
@@ -44,7 +46,12 @@ set_clock Silent left clocks = record clocks { silent = left }
 -- one tick passes
 abbrev pub all_ticked : ClocksData → ClocksData
 all_ticked clocks =
-    record { sending = ticked clocks.sending; answering = ticked clocks.answering; silent = ticked clocks.silent }
+    record {
+      sending = ticked clocks.sending;
+      answering = ticked clocks.answering;
+      silent =
+          ticked clocks.silent;
+    }
 
 -- a timer that is due is taken out
 unfoldable pub unless_due : Option ℕ → Option ℕ
@@ -52,12 +59,22 @@ unless_due left = if is_due left then None else left
 
 abbrev pub cleared : ClocksData → ClocksData
 cleared clocks =
-    record { sending = unless_due clocks.sending; answering = unless_due clocks.answering; silent = unless_due clocks.silent }
+    record {
+      sending = unless_due clocks.sending;
+      answering = unless_due clocks.answering;
+      silent =
+          unless_due clocks.silent;
+    }
 
 -- which timers are due
 abbrev pub due_in : ClocksData → Due
 due_in clocks =
-    record { sending = is_due clocks.sending; answering = is_due clocks.answering; silent = is_due clocks.silent }
+    record {
+      sending = is_due clocks.sending;
+      answering = is_due clocks.answering;
+      silent =
+          is_due clocks.silent;
+    }
 
 -- those that were due, and those that are
 abbrev pub both : Due → Due → Due
@@ -79,7 +96,8 @@ one_if false = 0
 
 unfoldable pub count_due : ClocksData → ℕ
 count_due clocks =
-    one_if (is_due clocks.sending) + (one_if (is_due clocks.answering) + one_if (is_due clocks.silent))
+    one_if (is_due clocks.sending) + (one_if (is_due clocks.answering) + one_if
+    (is_due clocks.silent))
 
 -- the first timer that is due
 unfoldable pub first_clock : ClocksData → Option Clock

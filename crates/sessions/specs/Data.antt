@@ -13,7 +13,8 @@ use Rattle.sessions.specs.Session.{Session}
 use Rattle.sessions.specs.declared.receivers.Receiver.{Receiver}
 use Rattle.sessions.specs.declared.moves.Running.{Running}
 
--- the end's role and parameters, the sessions that it sends and the receivers that it has, by their keys, and the number of the
+-- the end's role and parameters, the sessions that it sends and the receivers that it has, by their
+-- keys, and the number of the
 -- next session
 pub record SessionsData : Type 0 where
   pub role : Role
@@ -22,7 +23,8 @@ pub record SessionsData : Type 0 where
   pub receivers : List (Entry Reception)
   pub next : ℕ
 
--- the port by which the fragments of an end go, and their parameters, with answers or without (RFC 9011, section 5.2)
+-- the port by which the fragments of an end go, and their parameters, with answers or without (RFC
+-- 9011, section 5.2)
 abbrev pub key_of : ℕ × FragParams → SessionKey
 key_of way = record { port = way.0; tag = 0 }
 
@@ -40,11 +42,16 @@ in_key role acked = key_of (sending_of (other_role role) acked)
 
 -- a receiver that keeps nothing, of the mode in which the other end sends
 abbrev pub new_reception : Role → Bool → Reception
-new_reception role acked = record { receiver = new_receiver (sending_of (other_role role) acked).1.mode; left = None }
+new_reception role acked =
+    record { receiver = new_receiver (sending_of (other_role role) acked).1.mode; left = None }
 
 abbrev pub receptions : Role → Reception → Reception → List (Entry Reception)
 receptions role answering silent =
-    record { key = in_key role true; it = answering } ∷ record { key = in_key role false; it = silent } ∷ []
+    record { key = in_key role true; it = answering } ∷ record {
+      key = in_key role false;
+      it =
+          silent;
+    } ∷ []
 
 -- that of the receiver that answers, or of the one that doesn't
 abbrev pub pick : Bool → Reception → Reception → Reception
@@ -70,12 +77,14 @@ session_of None left = None
 session_of (Some running) left = Some (shown running left)
 
 -- what is seen of all that an end keeps
-abbrev pub seen : Role → EndParams → Option Running → Receiver → Receiver → ℕ → ClocksData → SessionsData
+abbrev pub seen : Role → EndParams → Option Running → Receiver → Receiver → ℕ → ClocksData
+    → SessionsData
 seen role params running answering silent next clocks = record {
   role = role;
   params = params;
   senders = entry (out_key role params.acked) (session_of running clocks.sending);
   receivers =
-      receptions role (record { receiver = answering; left = clocks.answering }) (record { receiver = silent; left = clocks.silent });
+      receptions role (record { receiver = answering; left = clocks.answering })
+      (record { receiver = silent; left = clocks.silent });
   next = next;
 }

@@ -17,7 +17,8 @@ use Rattle.frag_wire.specs.Spells.{Spells}
 use Rattle.frag_wire.specs.declared.message.Message.{Message}
 use Rattle.lorawan_profile.specs.Ports.{sending_of, meaning_of}
 use Rattle.lorawan_profile.specs.declared.ports.PortMeaning.{PortMeaning}
-use Rattle.lorawan_profile.specs.declared.ports.PortMeaning.TheVariants.{Fragments, Answers, Whole, Unknown}
+use Rattle.lorawan_profile.specs.declared.ports.PortMeaning.TheVariants.{Fragments, Answers, Whole}
+use Rattle.lorawan_profile.specs.declared.ports.PortMeaning.TheVariants.{Unknown}
 use Rattle.sessions.specs.Clocks.{ClocksData}
 use Rattle.sessions.specs.Keys.{Entry}
 use Rattle.sessions.specs.Receivers.{receiver_mode, receiver_phase}
@@ -54,7 +55,8 @@ receiver_timed receiver.Gathering = true
 receiver_timed receiver.Finished = true
 
 -- the session is one of this end, and its timer runs where it should
-pub record IsRunning (role : Role) (params : EndParams) (running : Running) (left : Option ℕ) : Type 0 where
+pub record IsRunning (role : Role) (params : EndParams) (running : Running) (left : Option ℕ) : Type
+    0 where
   pub row : sender_params running.sender ≡ (sending_of role params.acked).1
   pub mtu : sender_mtu running.sender ≡ params.mtu
   pub timed : is_armed left ≡ sender_timed (sender_phase running.sender)
@@ -64,11 +66,13 @@ AreRunning role params None left = left ≡ None
 AreRunning role params (Some running) left = IsRunning role params running left
 
 -- the receiver has the mode in which the other end sends, and its timer runs where it should
-pub record IsReceiving (role : Role) (acked : Bool) (receiver : Receiver) (left : Option ℕ) : Type 0 where
-  pub row : receiver_mode receiver ≡ (sending_of (other_role role) acked).1.mode
-  pub timed : is_armed left ≡ receiver_timed (receiver_phase receiver)
+pub record IsReceiving (role : Role) (acked : Bool) (receiver : Receiver) (left : Option ℕ) : Type 0
+  where
+    pub row : receiver_mode receiver ≡ (sending_of (other_role role) acked).1.mode
+    pub timed : is_armed left ≡ receiver_timed (receiver_phase receiver)
 
-pub record IsTable (role : Role) (params : EndParams) (running : Option Running) (answering silent : Receiver) (clocks : ClocksData) : Type 0 where
+pub record IsTable (role : Role) (params : EndParams) (running : Option Running)
+    (answering silent : Receiver) (clocks : ClocksData) : Type 0 where
   pub in_range : IsParams params
   pub sends : AreRunning role params running clocks.sending
   pub answers : IsReceiving role true answering clocks.answering
@@ -81,4 +85,5 @@ ComesBy role port params = (acked : Bool) × (sending_of (other_role role) acked
 -- the bytes are the message that the other end sends, with answers or without
 abbrev pub IsFragment : Role → Bool → Message → List ℕ → Type 0
 IsFragment role acked message bytes =
-    Spells (params_of (sending_of (other_role role) acked).1.mode) side.Fragments message (payload_in message (octets bytes)) bytes
+    Spells (params_of (sending_of (other_role role) acked).1.mode) side.Fragments message
+    (payload_in message (octets bytes)) bytes

@@ -1,4 +1,5 @@
--- RFC 8724, section 8.2.4: at an end a session has a RuleID, which is its port (RFC 9011, section 5.1), and a DTag. Lists by this
+-- RFC 8724, section 8.2.4: at an end a session has a RuleID, which is its port (RFC 9011, section
+-- 5.1), and a DTag. Lists by this
 -- key, in the order in which they are served.
 use Rattle.std.specs.Prelude.{ℕ, Bool, ◌==◌, ◌&&◌, cond, List, [], ◌∷◌, ◌++◌, Option, Some, None}
 
@@ -30,7 +31,8 @@ without key (x ∷ xs) = cond (same_key key x.key) (without key xs) (x ∷ witho
 -- the list where the key has this, or nothing; it keeps its place, and a new key comes last
 unfoldable pub put_in : {A : Type 0} → SessionKey → Option A → List (Entry A) → List (Entry A)
 put_in key o [] = entry key o
-put_in key o (x ∷ xs) = cond (same_key key x.key) (entry key o ++ without key xs) (x ∷ put_in key o xs)
+put_in key o (x ∷ xs) =
+    cond (same_key key x.key) (entry key o ++ without key xs) (x ∷ put_in key o xs)
 
 -- each value changed, or gone
 unfoldable pub changed : {A : Type 0} → (A → Option A) → List (Entry A) → List (Entry A)

@@ -8,4 +8,5 @@ use Rattle.sessions.specs.Steps.{preview_of, take_step}
 abbrev pub PreviewJoins : Type 0
 PreviewJoins =
     (port : ℕ) (bytes : List ℕ) (s : SessionsData) →
-    ((bits : List Bool) × (preview_of port bytes s ≡ Some bits)) ↔ ((take_step port bytes s).1.0 ≡ note.Joined)
+    ((bits : List Bool) × (preview_of port bytes s ≡ Some bits)) ↔
+    ((take_step port bytes s).1.0 ≡ note.Joined)

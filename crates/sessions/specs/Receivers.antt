@@ -36,7 +36,8 @@ carried wrap step = (wrap step.0, step.1)
 unfoldable pub receiver_taken : Message → List Bool → Receiver → Receiver × Note
 receiver_taken message payload (NoAck r) = carried NoAck (no_ack_step.taken message payload r)
 receiver_taken message payload (AckAlways r) = carried AckAlways (aa_step.taken message payload r)
-receiver_taken message payload (AckOnError r) = carried AckOnError (aoe_step.taken message payload r)
+receiver_taken message payload (AckOnError r) =
+    carried AckOnError (aoe_step.taken message payload r)
 
 -- the assembly over which the message makes the check, where it makes one
 unfoldable pub receiver_checked : Message → List Bool → Receiver → Option (List Bool)

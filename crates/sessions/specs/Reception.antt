@@ -1,4 +1,5 @@
--- What an end receives by one key: the receiver and its timer. What the steps of the receiver do to the timer.
+-- What an end receives by one key: the receiver and its timer. What the steps of the receiver do to
+-- the timer.
 use Rattle.std.specs.Prelude.{ℕ, Bool, true, false, ◌&&◌, if◌then◌else◌, List, Option, Some, None}
 use Rattle.schc_ids.specs.declared.ends.TimerTicks.{TimerTicks}
 use Rattle.schc_ids.specs.declared.notes.Note.{Note}
@@ -7,7 +8,8 @@ use Rattle.schc_ids.specs.declared.phases.ReceiverPhase.{ReceiverPhase}
 use Rattle.schc_ids.specs.declared.phases.ReceiverPhase.TheVariants.{Empty, Gathering, Finished}
 use Rattle.frag_wire.specs.declared.message.Message.{Message}
 use Rattle.timers.specs.Timers.{ticked, is_due}
-use Rattle.sessions.specs.Receivers.{receiver_phase, receiver_taken, receiver_idled, receiver_lapsed, receiver_answered}
+use Rattle.sessions.specs.Receivers.{receiver_phase, receiver_taken, receiver_idled}
+use Rattle.sessions.specs.Receivers.{receiver_lapsed, receiver_answered}
 use Rattle.sessions.specs.declared.receivers.Receiver.{Receiver}
 
 pub record Reception : Type 0 where
@@ -30,16 +32,20 @@ abbrev pub is_remnant : Note → Bool
 is_remnant note.Remnant = true
 is_remnant meaning = false
 
--- a message that is no remnant begins the timer anew, and so does a receiver that comes to stand elsewhere
-unfoldable pub receiver_left : TimerTicks → ReceiverPhase → ReceiverPhase → Note → Option ℕ → Option ℕ
+-- a message that is no remnant begins the timer anew, and so does a receiver that comes to stand
+-- elsewhere
+unfoldable pub receiver_left : TimerTicks → ReceiverPhase → ReceiverPhase → Note → Option ℕ
+    → Option ℕ
 receiver_left ticks before after meaning left =
-    if is_remnant meaning && same_receiver_phase before after then left else receiver_ticks ticks after
+    if is_remnant meaning && same_receiver_phase before after then left else receiver_ticks ticks
+    after
 
 abbrev pub reception_after : TimerTicks → Reception → Receiver × Note → Reception × Note
 reception_after ticks reception step = (
   record {
     receiver = step.0;
-    left = receiver_left ticks (receiver_phase reception.receiver) (receiver_phase step.0) step.1 reception.left;
+    left = receiver_left ticks (receiver_phase reception.receiver) (receiver_phase step.0) step.1
+        reception.left;
   },
   step.1,
 )
@@ -51,7 +57,8 @@ reception_taken ticks message payload reception =
 
 -- the answer that is due is given
 unfoldable pub reception_answered : Reception → Reception
-reception_answered reception = record { receiver = receiver_answered reception.receiver; left = reception.left }
+reception_answered reception =
+    record { receiver = receiver_answered reception.receiver; left = reception.left }
 
 -- the timer is due, and isn't armed any more
 unfoldable pub receiver_fired : ReceiverPhase → Receiver → Receiver
@@ -61,7 +68,11 @@ receiver_fired Finished receiver = receiver_lapsed receiver
 
 unfoldable pub reception_fired : Reception → Reception
 reception_fired reception =
-    record { receiver = receiver_fired (receiver_phase reception.receiver) reception.receiver; left = None }
+    record {
+      receiver =
+          receiver_fired (receiver_phase reception.receiver) reception.receiver;
+      left = None;
+    }
 
 -- one tick passes
 unfoldable pub reception_ticked : Reception → Reception

@@ -1,4 +1,5 @@
--- The session that an end sends by one key: its number, its sender, and its timer. What the steps of the sender do to the timer.
+-- The session that an end sends by one key: its number, its sender, and its timer. What the steps
+-- of the sender do to the timer.
 use Rattle.std.specs.Prelude.{ℕ, Bool, true, false, if◌then◌else◌, Option, Some, None, option_map}
 use Rattle.schc_ids.specs.declared.ends.TimerTicks.{TimerTicks}
 use Rattle.schc_ids.specs.declared.notes.FailCause.TheVariants.{AttemptsSpent, CheckNeverPasses}
@@ -14,7 +15,8 @@ use Rattle.schc_ids.specs.declared.phases.SenderPhase.{SenderPhase}
 use Rattle.schc_ids.specs.declared.phases.SenderPhase.TheVariants.{Sending, Waiting, Closing, Quiet}
 use Rattle.frag_wire.specs.declared.message.Message.{Message}
 use Rattle.timers.specs.Timers.{ticked, is_due}
-use Rattle.sessions.specs.Senders.{sender_phase, sender_sent, sender_heard, sender_retried, sender_aborted}
+use Rattle.sessions.specs.Senders.{sender_phase, sender_sent, sender_heard, sender_retried}
+use Rattle.sessions.specs.Senders.{sender_aborted}
 use Rattle.sessions.specs.declared.senders.Sender.{Sender}
 
 pub record Session : Type 0 where
@@ -22,7 +24,8 @@ pub record Session : Type 0 where
   pub sender : Sender
   pub left : Option ℕ
 
--- which timer runs where the sender stands: that of retransmission while it waits, and then that of quiet
+-- which timer runs where the sender stands: that of retransmission while it waits, and then that of
+-- quiet
 abbrev pub sender_ticks : TimerTicks → SenderPhase → Option ℕ
 sender_ticks ticks Sending = None
 sender_ticks ticks Waiting = Some ticks.retransmission
@@ -38,7 +41,8 @@ same_sender_phase before after = false
 
 -- the timer goes on while the sender stays where it is, and begins anew where it comes
 unfoldable pub sender_left : TimerTicks → SenderPhase → SenderPhase → Option ℕ → Option ℕ
-sender_left ticks before after left = if same_sender_phase before after then left else sender_ticks ticks after
+sender_left ticks before after left =
+    if same_sender_phase before after then left else sender_ticks ticks after
 
 -- the session after a step of its sender
 unfoldable pub session_moved : TimerTicks → Session → Sender → Session
@@ -61,7 +65,9 @@ unfoldable pub session_sent : TimerTicks → Session → Session
 session_sent ticks session = session_moved ticks session (sender_sent session.sender)
 
 unfoldable pub sent_report : Session → Option Report
-sent_report session = reported session.number (sent_kind (sender_phase session.sender) (sender_phase (sender_sent session.sender)))
+sent_report session =
+    reported session.number
+    (sent_kind (sender_phase session.sender) (sender_phase (sender_sent session.sender)))
 
 -- what an answer is noted as: one that counts, the last one included
 abbrev pub heard_note : Heard → Note
@@ -88,7 +94,8 @@ abbrev pub session_after : TimerTicks → Session → Sender × Heard → Sessio
 session_after ticks session step = (session_moved ticks session step.0, step.1)
 
 unfoldable pub session_heard : TimerTicks → Message → Session → Session × Heard
-session_heard ticks message session = session_after ticks session (sender_heard message session.sender)
+session_heard ticks message session =
+    session_after ticks session (sender_heard message session.sender)
 
 unfoldable pub session_aborted : TimerTicks → Session → Session × Heard
 session_aborted ticks session = session_after ticks session (sender_aborted session.sender)
@@ -96,7 +103,8 @@ session_aborted ticks session = session_after ticks session (sender_aborted sess
 abbrev pub stays : Session × Heard → Option Session × Heard
 stays step = (Some step.0, step.1)
 
--- the timer is due, and isn't armed any more: a request that wasn't answered is made again, and a session whose quiet time has
+-- the timer is due, and isn't armed any more: a request that wasn't answered is made again, and a
+-- session whose quiet time has
 -- passed is gone
 unfoldable pub fired_in : TimerTicks → Session → SenderPhase → Option Session × Heard
 fired_in ticks session Waiting = stays (session_after ticks session (sender_retried session.sender))
@@ -105,7 +113,8 @@ fired_in ticks session Sending = (Some session, heard.Nothing)
 fired_in ticks session Closing = (Some session, heard.Nothing)
 
 unfoldable pub session_fired : TimerTicks → Session → Option Session × Heard
-session_fired ticks session = fired_in ticks (record session { left = None }) (sender_phase session.sender)
+session_fired ticks session =
+    fired_in ticks (record session { left = None }) (sender_phase session.sender)
 
 -- one tick passes
 unfoldable pub session_ticked : TimerTicks → Session → Option Session × Heard

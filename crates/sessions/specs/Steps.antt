@@ -1,5 +1,6 @@
 -- The steps of the sessions of an end: those of one key, in the lists.
-use Rattle.std.specs.Prelude.{ℕ, ◌+◌, ◌-◌, ◌^◌, min, Bool, true, false, ◌||◌, List, [], ◌∷◌, Option, Some, None, Result, Ok, Err}
+use Rattle.std.specs.Prelude.{ℕ, ◌+◌, ◌-◌, ◌^◌, min, Bool, true, false, ◌||◌, List, [], ◌∷◌, Option}
+use Rattle.std.specs.Prelude.{Some, None, Result, Ok, Err}
 use Rattle.schc_bits.specs.Bits.{octets}
 use Rattle.schc_ids.specs.declared.ends.TimerTicks.{TimerTicks}
 use Rattle.schc_ids.specs.declared.faults.WireFault.{WireFault}
@@ -19,20 +20,25 @@ use Rattle.frag_wire.specs.Spells.{reading_in}
 use Rattle.frag_wire.specs.declared.message.Message.{Message}
 use Rattle.lorawan_profile.specs.Ports.{sending_of, meaning_of}
 use Rattle.lorawan_profile.specs.declared.ports.PortMeaning.{PortMeaning}
-use Rattle.lorawan_profile.specs.declared.ports.PortMeaning.TheVariants.{Fragments, Answers, Whole, Unknown}
+use Rattle.lorawan_profile.specs.declared.ports.PortMeaning.TheVariants.{Fragments, Answers, Whole}
+use Rattle.lorawan_profile.specs.declared.ports.PortMeaning.TheVariants.{Unknown}
 use Rattle.sessions.specs.Data.{SessionsData, port_key, out_key}
 use Rattle.sessions.specs.Holds.{is_armed}
 use Rattle.sessions.specs.Keys.{SessionKey, Entry, found, put_in, changed, each}
 use Rattle.sessions.specs.Receivers.{receiver_due, receiver_previewed}
-use Rattle.sessions.specs.Reception.{Reception, reception_taken, reception_answered, reception_ticked}
+use Rattle.sessions.specs.Reception.{Reception, reception_taken, reception_answered}
+use Rattle.sessions.specs.Reception.{reception_ticked}
 use Rattle.sessions.specs.Senders.{sender_begun, sender_due, sender_phase}
-use Rattle.sessions.specs.Session.{Session, session_sent, sent_report, session_heard, heard_note, heard_kind, reported, session_aborted, session_fired, session_ticked}
+use Rattle.sessions.specs.Session.{Session, session_sent, sent_report, session_heard, heard_note}
+use Rattle.sessions.specs.Session.{heard_kind, reported, session_aborted, session_fired}
+use Rattle.sessions.specs.Session.{session_ticked}
 use Rattle.sessions.specs.declared.out.SessionOut.{SessionOut}
 
 -- What is given.
 
 abbrev pub given : SessionKey → List ℕ → EmitKind → Option Report → SessionOut
-given key bytes kind report = record { frame = record { port = key.port; bytes = bytes }; kind = kind; report = report }
+given key bytes kind report =
+    record { frame = record { port = key.port; bytes = bytes }; kind = kind; report = report }
 
 -- the number stays at the greatest
 unfoldable pub next_number : ℕ → ℕ
@@ -42,7 +48,12 @@ next_number number = min (number + 1) (2 ^ 64 - 1)
 unfoldable pub new_session : List Bool → SessionsData → Session
 new_session bits s =
     let way : ℕ × FragParams = sending_of s.role s.params.acked in
-    record { number = s.next; sender = sender_begun way.1.mode way.1 s.params.mtu s.params.last bits; left = None }
+    record {
+      number = s.next;
+      sender =
+          sender_begun way.1.mode way.1 s.params.mtu s.params.last bits;
+      left = None;
+    }
 
 abbrev pub with_session : SessionKey → Option Session → SessionsData → SessionsData
 with_session key session s = record s { senders = put_in key session s.senders }
@@ -51,19 +62,25 @@ abbrev pub with_reception : SessionKey → Reception → SessionsData → Sessio
 with_reception key reception s = record s { receivers = put_in key (Some reception) s.receivers }
 
 -- the message of a session is given
-unfoldable pub sends : SessionsData → SessionKey → Session → EmitKind → Option (List ℕ) → SessionsData × Option SessionOut
+unfoldable pub sends : SessionsData → SessionKey → Session → EmitKind → Option (List ℕ)
+    → SessionsData × Option SessionOut
 sends s key session kind None = (s, None)
-sends s key session kind (Some bytes) =
-    (with_session key (Some (session_sent s.params.ticks session)) s, Some (given key bytes kind (sent_report session)))
+sends s key session kind (Some bytes) = (
+  with_session key (Some (session_sent s.params.ticks session)) s,
+  Some
+      (given key bytes kind (sent_report session)),
+)
 
 -- a session begins, and its first message is given
 unfoldable pub begin_step : List Bool → SessionsData → SessionsData × Option SessionOut
 begin_step bits s =
     let session : Session = new_session bits s in
-    sends (record s { next = next_number s.next }) (out_key s.role s.params.acked) session (kind.Begins s.next)
+    sends (record s { next = next_number s.next }) (out_key s.role s.params.acked) session
+    (kind.Begins s.next)
     (sender_due session.sender)
 
--- what is given next: the answer of the first receiver that has one due, else a Sender-Abort, else the next message of a session
+-- what is given next: the answer of the first receiver that has one due, else a Sender-Abort, else
+-- the next message of a session
 pub data Choice : Type 0 where
   Idle : Choice
   GivesAnswer : SessionKey → Reception → List ℕ → Choice
@@ -75,7 +92,8 @@ answer_or key reception (Some bytes) rest = GivesAnswer key reception bytes
 
 unfoldable pub answers_from : List (Entry Reception) → Choice → Choice
 answers_from [] rest = rest
-answers_from (x ∷ xs) rest = answer_or x.key x.it (receiver_due x.it.receiver) (answers_from xs rest)
+answers_from (x ∷ xs) rest =
+    answer_or x.key x.it (receiver_due x.it.receiver) (answers_from xs rest)
 
 -- a session that stands there
 unfoldable pub message_if : Bool → SessionKey → Session → Choice → Choice
@@ -115,34 +133,41 @@ next_step s = next_from s (choice s)
 -- What is taken. By the port comes what the other end sends as a sender or as a receiver.
 
 -- a fragment comes to the receiver of its key
-unfoldable pub fragment_taken : SessionsData → SessionKey → Message → List Bool → Option Reception → SessionsData × Note
+unfoldable pub fragment_taken : SessionsData → SessionKey → Message → List Bool → Option Reception
+    → SessionsData × Note
 fragment_taken s key message payload None = (s, note.Refused UnknownPort)
 fragment_taken s key message payload (Some reception) =
     let t : Reception × Note = reception_taken s.params.ticks message payload reception in
     (with_reception key t.0 s, t.1)
 
-unfoldable pub fragment_read : SessionsData → SessionKey → List ℕ → Result Message WireFault → SessionsData × Note
+unfoldable pub fragment_read : SessionsData → SessionKey → List ℕ → Result Message WireFault
+    → SessionsData × Note
 fragment_read s key bytes (Err fault) = (s, note.Refused (Wire fault))
 fragment_read s key bytes (Ok message) =
     fragment_taken s key message (payload_in message (octets bytes)) (found key s.receivers)
 
 -- an answer comes to the session of its key: where none is under way it is a remnant
-unfoldable pub answer_taken : SessionsData → SessionKey → Message → Option Session → SessionsData × (Note × Option Report)
+unfoldable pub answer_taken : SessionsData → SessionKey → Message → Option Session → SessionsData
+    × (Note × Option Report)
 answer_taken s key message None = (s, (note.Remnant, None))
 answer_taken s key message (Some session) =
     let t : Session × Heard = session_heard s.params.ticks message session in
     (with_session key (Some t.0) s, (heard_note t.1, reported session.number (heard_kind t.1)))
 
-unfoldable pub answer_read : SessionsData → SessionKey → Result Message WireFault → SessionsData × (Note × Option Report)
+unfoldable pub answer_read : SessionsData → SessionKey → Result Message WireFault → SessionsData
+    × (Note × Option Report)
 answer_read s key (Err fault) = (s, (note.Refused (Wire fault), None))
 answer_read s key (Ok message) = answer_taken s key message (found key s.senders)
 
 abbrev pub without_report : SessionsData × Note → SessionsData × (Note × Option Report)
 without_report step = (step.0, (step.1, None))
 
-unfoldable pub take_from : SessionsData → SessionKey → List ℕ → PortMeaning → SessionsData × (Note × Option Report)
-take_from s key bytes (Fragments params) = without_report (fragment_read s key bytes (reading_in params.mode side.Fragments bytes))
-take_from s key bytes (Answers params) = answer_read s key (reading_in params.mode side.Answers bytes)
+unfoldable pub take_from : SessionsData → SessionKey → List ℕ → PortMeaning → SessionsData
+    × (Note × Option Report)
+take_from s key bytes (Fragments params) =
+    without_report (fragment_read s key bytes (reading_in params.mode side.Fragments bytes))
+take_from s key bytes (Answers params) =
+    answer_read s key (reading_in params.mode side.Answers bytes)
 take_from s key bytes Whole = (s, (note.Refused UnknownPort, None))
 take_from s key bytes Unknown = (s, (note.Refused UnknownPort, None))
 
@@ -152,15 +177,18 @@ take_step port bytes s = take_from s (port_key port) bytes (meaning_of s.role po
 -- the assembly that a frame would join
 unfoldable pub fragment_previewed : Message → List Bool → Option Reception → Option (List Bool)
 fragment_previewed message payload None = None
-fragment_previewed message payload (Some reception) = receiver_previewed message payload reception.receiver
+fragment_previewed message payload (Some reception) =
+    receiver_previewed message payload reception.receiver
 
-unfoldable pub read_previewed : SessionsData → SessionKey → List ℕ → Result Message WireFault → Option (List Bool)
+unfoldable pub read_previewed : SessionsData → SessionKey → List ℕ → Result Message WireFault
+    → Option (List Bool)
 read_previewed s key bytes (Err fault) = None
 read_previewed s key bytes (Ok message) =
     fragment_previewed message (payload_in message (octets bytes)) (found key s.receivers)
 
 unfoldable pub preview_from : SessionsData → SessionKey → List ℕ → PortMeaning → Option (List Bool)
-preview_from s key bytes (Fragments params) = read_previewed s key bytes (reading_in params.mode side.Fragments bytes)
+preview_from s key bytes (Fragments params) =
+    read_previewed s key bytes (reading_in params.mode side.Fragments bytes)
 preview_from s key bytes (Answers params) = None
 preview_from s key bytes Whole = None
 preview_from s key bytes Unknown = None
@@ -176,8 +204,11 @@ ticked_report ticks session = reported session.number (heard_kind (session_ticke
 -- the timer of the session is due
 abbrev pub fired_session : TimerTicks → Option Session → Option Session × Option Report
 fired_session ticks None = (None, None)
-fired_session ticks (Some session) =
-    ((session_fired ticks session).0, reported session.number (heard_kind (session_fired ticks session).1))
+fired_session ticks (Some session) = (
+  (session_fired ticks session).0,
+  reported session.number
+      (heard_kind (session_fired ticks session).1),
+)
 
 abbrev pub or_else : Option Report → Option Report → Option Report
 or_else None later = later
@@ -198,14 +229,16 @@ tick_step s = (
 )
 
 -- the session of the key is given up
-unfoldable pub aborted_from : SessionsData → SessionKey → Option Session → SessionsData × Option Report
+unfoldable pub aborted_from : SessionsData → SessionKey → Option Session → SessionsData
+    × Option Report
 aborted_from s key None = (s, None)
 aborted_from s key (Some session) =
     let t : Session × Heard = session_aborted s.params.ticks session in
     (with_session key (Some t.0) s, reported session.number (heard_kind t.1))
 
 unfoldable pub abort_step : SessionsData → SessionsData × Option Report
-abort_step s = aborted_from s (out_key s.role s.params.acked) (found (out_key s.role s.params.acked) s.senders)
+abort_step s =
+    aborted_from s (out_key s.role s.params.acked) (found (out_key s.role s.params.acked) s.senders)
 
 -- What stands.
 

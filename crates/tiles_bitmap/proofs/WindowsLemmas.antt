@@ -1,77 +1,103 @@
 -- Windows, bitmaps and numbers to send.
-use Rattle.std.proofs.Common.{◌≡◌, ◌⊎◌, inl, inr, ℕ, zero, suc, ◌+◌, ◌-◌, ◌*◌, ◌%◌, ◌<◌, ◌≤◌, ◌==◌, not, min, Bool, true, false, List, [], ◌∷◌, take, drop, length, get_or, if◌then◌else◌, refl, sym, ap, subst, ◌∙◌, arith, suc-mul}
+use Rattle.std.proofs.Common.{◌≡◌, ◌⊎◌, inl, inr, ℕ, zero, suc, ◌+◌, ◌-◌, ◌*◌, ◌%◌, ◌<◌, ◌≤◌, ◌==◌}
+use Rattle.std.proofs.Common.{not, min, Bool, true, false, List, [], ◌∷◌, take, drop, length}
+use Rattle.std.proofs.Common.{get_or, if◌then◌else◌, refl, sym, ap, subst, ◌∙◌, arith, suc-mul}
 use Rattle.std.specs.List.{AllByRecursion}
 use Rattle.std.proofs.lemmas.Bool.{eqb-true, cases_lt}
 use Rattle.std.proofs.lemmas.List.{get_or-take, get_or-drop, length-take, length-drop}
 use Rattle.tiles_bitmap.specs.Places.{Among}
-use Rattle.tiles_bitmap.specs.Places.{numbers_from, all_true, open_window, with_last, missing, goes_on, one_more, run}
+use Rattle.tiles_bitmap.specs.Places.{numbers_from, all_true, open_window, with_last, missing}
+use Rattle.tiles_bitmap.specs.Places.{goes_on, one_more, run}
 use Rattle.tiles_bitmap.proofs.PlacesLemmas.{all_true-at, all_true-from}
 
 -- the open window: those below are full
-open-full-if : (size : ℕ) (bits : List Bool) (b : Bool) (rest i : ℕ) → all_true (take size bits) ≡ b → i < length bits →
-    ((j : ℕ) → j < rest * size → j < length (drop size bits) → get_or (drop size bits) j false ≡ true) →
+open-full-if : (size : ℕ) (bits : List Bool) (b : Bool) (rest i : ℕ) → all_true (take size bits) ≡ b
+    → i < length bits →
+    ((j : ℕ) → j < rest * size → j < length (drop size bits)
+    → get_or (drop size bits) j false ≡ true) →
     i < (if b then suc rest else zero) * size → get_or bits i false ≡ true
 open-full-if size bits false rest i e there f h = absurd (omega arith)
 open-full-if size bits true rest i e there f h = open-full-at (cases_lt i size) (rw suc-mul at h)
   where
     open-full-at : (i < size) ⊎ (size ≤ i) → i < rest * size + size → get_or bits i false ≡ true
-    open-full-at (inl low) wide = sym (get_or-take size bits i false low) ∙ all_true-at (take size bits) i e (rw length-take (omega arith))
+    open-full-at (inl low) wide = sym (get_or-take size bits i false low)
+        ∙ all_true-at (take size bits) i e (rw length-take (omega arith))
     open-full-at (inr high) wide =
-        let k : get_or (drop size bits) (i - size) false ≡ true = f (i - size) (omega arith) (rw length-drop (omega arith)) in
+        let k : get_or (drop size bits) (i - size) false ≡ true =
+        f (i - size) (omega arith) (rw length-drop (omega arith)) in
         let same : size + (i - size) ≡ i = omega arith in
         rw (get_or-drop, same) at k
 
-pub open-full : (size last : ℕ) (bits : List Bool) (i : ℕ) → i < open_window size last bits * size → i < length bits → get_or bits i false ≡ true
+pub open-full : (size last : ℕ) (bits : List Bool) (i : ℕ) → i < open_window size last bits * size
+    → i < length bits → get_or bits i false ≡ true
 unfolding open_window
 open-full size zero bits i h there = absurd (omega arith)
 open-full size (suc last) bits i h there =
-    open-full-if size bits (all_true (take size bits)) (open_window size last (drop size bits)) i refl there
+    open-full-if size bits (all_true (take size bits)) (open_window size last (drop size bits)) i
+    refl there
     (λ j k l. open-full size last (drop size bits) j k l) h
 
 pub open-below : (size last : ℕ) (bits : List Bool) → open_window size last bits ≤ last
 unfolding open_window
 open-below size zero bits = omega arith
-open-below size (suc last) bits = open-below-if (all_true (take size bits)) (open_window size last (drop size bits)) last (open-below size last (drop size bits))
+open-below size (suc last) bits =
+    open-below-if (all_true (take size bits)) (open_window size last (drop size bits)) last
+    (open-below size last (drop size bits))
   where
-    open-below-if : (b : Bool) (rest last : ℕ) → rest ≤ last → (if b then suc rest else zero) ≤ suc last
+    open-below-if : (b : Bool) (rest last : ℕ) → rest ≤ last
+        → (if b then suc rest else zero) ≤ suc last
     open-below-if true rest last h = omega arith
     open-below-if false rest last h = omega arith
 
 -- and it isn't below a window where all are full
-pub open-least : (size last : ℕ) (bits : List Bool) (w : ℕ) → w ≤ last → ((i : ℕ) → i < w * size → get_or bits i false ≡ true) → w ≤ open_window size last bits
+pub open-least : (size last : ℕ) (bits : List Bool) (w : ℕ) → w ≤ last
+    → ((i : ℕ) → i < w * size → get_or bits i false ≡ true) → w ≤ open_window size last bits
 unfolding open_window
 open-least size last bits zero h f = omega arith
 open-least size zero bits (suc w) h f = absurd (omega arith)
 open-least size (suc last) bits (suc w) h f =
-    let first : all_true (take size bits) ≡ true = all_true-from (take size bits) (λ i k. first-at i (rw length-take at k)) in
-    rw first (let k : w ≤ open_window size last (drop size bits) = open-least size last (drop size bits) w (omega arith) (λ i k. rw get_or-drop (f (size + i) (rw suc-mul (omega arith)))) in omega arith)
+    let first : all_true (take size bits) ≡ true =
+    all_true-from (take size bits) (λ i k. first-at i (rw length-take at k)) in
+    rw first
+    (let k : w ≤ open_window size last (drop size bits) =
+    open-least size last (drop size bits) w (omega arith)
+    (λ i k. rw get_or-drop (f (size + i) (rw suc-mul (omega arith)))) in omega arith)
   where
     first-at : (i : ℕ) → i < min size (length bits) → get_or (take size bits) i false ≡ true
-    first-at i k = let low : i < size = omega arith in get_or-take size bits i false low ∙ f i (rw suc-mul (omega arith))
+    first-at i k = let low : i < size = omega arith in get_or-take size bits i false low
+        ∙ f i (rw suc-mul (omega arith))
 
 moved : (k i : ℕ) → k + suc i ≡ suc k + i
 moved k i = omega arith
 
 -- a bit that isn't there is in the numbers
-pub missing-covers : (k left : ℕ) (bits : List Bool) (i : ℕ) → i < left → i < length bits → (get_or bits i false ≡ true) ⊎ Among (k + i) (missing k left bits)
+pub missing-covers : (k left : ℕ) (bits : List Bool) (i : ℕ) → i < left → i < length bits
+    → (get_or bits i false ≡ true) ⊎ Among (k + i) (missing k left bits)
 unfolding missing
 missing-covers k zero bits i h there = absurd (omega arith)
 missing-covers k (suc left) [] i h there = absurd (omega arith)
 missing-covers k (suc left) (true ∷ bits) zero h there = inl refl
 missing-covers k (suc left) (false ∷ bits) zero h there = inr (inl (omega arith))
-missing-covers k (suc left) (true ∷ bits) (suc i) h there = subst (λ n. (get_or bits i false ≡ true) ⊎ Among n (missing (suc k) left bits)) (sym (moved k i)) (missing-covers (suc k) left bits i (omega arith) (omega arith))
-missing-covers k (suc left) (false ∷ bits) (suc i) h there = later (missing-covers (suc k) left bits i (omega arith) (omega arith))
+missing-covers k (suc left) (true ∷ bits) (suc i) h there =
+    subst (λ n. (get_or bits i false ≡ true) ⊎ Among n (missing (suc k) left bits))
+    (sym (moved k i)) (missing-covers (suc k) left bits i (omega arith) (omega arith))
+missing-covers k (suc left) (false ∷ bits) (suc i) h there =
+    later (missing-covers (suc k) left bits i (omega arith) (omega arith))
   where
-    later : (get_or bits i false ≡ true) ⊎ Among (suc k + i) (missing (suc k) left bits) → (get_or bits i false ≡ true) ⊎ Among (k + suc i) (k ∷ missing (suc k) left bits)
+    later : (get_or bits i false ≡ true) ⊎ Among (suc k + i) (missing (suc k) left bits)
+        → (get_or bits i false ≡ true) ⊎ Among (k + suc i) (k ∷ missing (suc k) left bits)
     later (inl e) = inl e
-    later (inr there) = inr (inr (subst (λ n. Among n (missing (suc k) left bits)) (sym (moved k i)) there))
+    later (inr there) =
+        inr (inr (subst (λ n. Among n (missing (suc k) left bits)) (sym (moved k i)) there))
 
-pub missing-fit : (k left m : ℕ) (bits : List Bool) → left ≤ m - k → AllByRecursion (λ j. j < m) (missing k left bits)
+pub missing-fit : (k left m : ℕ) (bits : List Bool) → left ≤ m - k
+    → AllByRecursion (λ j. j < m) (missing k left bits)
 unfolding missing
 missing-fit k zero m bits h = tt
 missing-fit k (suc left) m [] h = tt
 missing-fit k (suc left) m (true ∷ bits) h = missing-fit (suc k) left m bits (omega arith)
-missing-fit k (suc left) m (false ∷ bits) h = (omega arith, missing-fit (suc k) left m bits (omega arith))
+missing-fit k (suc left) m (false ∷ bits) h =
+    (omega arith, missing-fit (suc k) left m bits (omega arith))
 
 pub length-missing : (k left : ℕ) (bits : List Bool) → length (missing k left bits) ≤ left
 unfolding missing
@@ -91,7 +117,8 @@ length-numbers k zero = refl
 length-numbers k (suc n) = ap suc (length-numbers (suc k) n)
 
 -- the last bit
-pub with_last-at : (bits : List Bool) (i : ℕ) → suc i < length bits → get_or (with_last bits) i false ≡ get_or bits i false
+pub with_last-at : (bits : List Bool) (i : ℕ) → suc i < length bits
+    → get_or (with_last bits) i false ≡ get_or bits i false
 unfolding with_last
 with_last-at [] i h = refl
 with_last-at (b ∷ []) i h = absurd (omega arith)
@@ -102,7 +129,10 @@ pub with_last-last : (bits : List Bool) → get_or (with_last bits) (length bits
 unfolding with_last
 with_last-last [] = refl
 with_last-last (b ∷ []) = refl
-with_last-last (b ∷ c ∷ bits) = let e : suc (suc (length bits)) - 1 ≡ suc (length bits) = omega arith in rw e (let f : suc (length bits) - 1 ≡ length bits = omega arith in rw f at (with_last-last (c ∷ bits)))
+with_last-last (b ∷ c ∷ bits) = let e : suc (suc (length bits)) - 1 ≡ suc (length bits) =
+    omega arith in
+    rw e (let f : suc (length bits) - 1 ≡ length bits = omega arith in
+    rw f at (with_last-last (c ∷ bits)))
 
 pub length-with_last : (bits : List Bool) → length (with_last bits) ≡ length bits
 unfolding with_last
@@ -125,7 +155,8 @@ follows size k next e = follows-if (next == suc k) (not (next % size == 0)) refl
     follows-if true c h e = eqb-true next (suc k) h
     follows-if false c h e = absurd cc
 
-one_more-is : (b : Bool) (k next m : ℕ) (numbers : List ℕ) (rest : ℕ × List ℕ) → (b ≡ true → next ≡ suc k) → k < m → AllByRecursion (λ j. j < m) (next ∷ numbers) →
+one_more-is : (b : Bool) (k next m : ℕ) (numbers : List ℕ) (rest : ℕ × List ℕ)
+    → (b ≡ true → next ≡ suc k) → k < m → AllByRecursion (λ j. j < m) (next ∷ numbers) →
     IsRun next m numbers rest → IsRun k m (next ∷ numbers) (one_more b rest (next ∷ numbers))
 unfolding one_more
 one_more-is true k next m numbers rest f h all r =
@@ -137,18 +168,43 @@ one_more-is true k next m numbers rest f h all r =
       shorter = let s = r.shorter in omega arith;
     }
   where
-    covers-later : next ≡ suc k → (i : ℕ) → ((next < i) × (i ≤ next + rest.0)) ⊎ Among i rest.1 → ((k < i) × (i ≤ k + suc rest.0)) ⊎ Among i rest.1
+    covers-later : next ≡ suc k → (i : ℕ) → ((next < i) × (i ≤ next + rest.0)) ⊎ Among i rest.1
+        → ((k < i) × (i ≤ k + suc rest.0)) ⊎ Among i rest.1
     covers-later e i (inl both) = inl (omega arith, omega arith)
     covers-later e i (inr there) = inr there
 
-    covers-true : next ≡ suc k → (i : ℕ) → Among i (next ∷ numbers) → ((k < i) × (i ≤ k + suc rest.0)) ⊎ Among i rest.1
+    covers-true : next ≡ suc k → (i : ℕ) → Among i (next ∷ numbers)
+        → ((k < i) × (i ≤ k + suc rest.0)) ⊎ Among i rest.1
     covers-true e i (inl same) = inl (omega arith, omega arith)
     covers-true e i (inr there) = covers-later e i (r.covers i there)
-one_more-is false k next m numbers rest f h all r = record { covers = λ i there. inr there; within = omega arith; rest_within = all; shorter = omega arith }
+one_more-is false k next m numbers rest f h all r =
+    record {
+      covers = λ i there. inr there;
+      within = omega arith;
+      rest_within = all;
+      shorter =
+          omega arith;
+    }
 
-pub run-is : (size most k m : ℕ) (numbers : List ℕ) → k < m → AllByRecursion (λ j. j < m) numbers → IsRun k m numbers (run size most k numbers)
+pub run-is : (size most k m : ℕ) (numbers : List ℕ) → k < m → AllByRecursion (λ j. j < m) numbers
+    → IsRun k m numbers (run size most k numbers)
 unfolding run
-run-is size zero k m numbers h all = record { covers = λ i there. inr there; within = omega arith; rest_within = all; shorter = omega arith }
-run-is size (suc most) k m [] h all = record { covers = λ i there. inr there; within = omega arith; rest_within = tt; shorter = omega arith }
+run-is size zero k m numbers h all =
+    record {
+      covers = λ i there. inr there;
+      within = omega arith;
+      rest_within = all;
+      shorter =
+          omega arith;
+    }
+run-is size (suc most) k m [] h all =
+    record {
+      covers = λ i there. inr there;
+      within = omega arith;
+      rest_within = tt;
+      shorter =
+          omega arith;
+    }
 run-is size (suc most) k m (next ∷ numbers) h all =
-    one_more-is (goes_on size k next) k next m numbers (run size most next numbers) (follows size k next) h all (run-is size most next m numbers all.0 all.1)
+    one_more-is (goes_on size k next) k next m numbers (run size most next numbers)
+    (follows size k next) h all (run-is size most next m numbers all.0 all.1)

@@ -1,5 +1,6 @@
 -- What holds of the tiles of every SCHC packet.
-use Rattle.std.specs.Prelude.{ℕ, ◌≡◌, ◌⊎◌, suc, ◌+◌, ◌*◌, ◌/◌, ◌%◌, ◌<◌, ◌≤◌, Bool, List, [], ◌∷◌, ◌++◌, length}
+use Rattle.std.specs.Prelude.{ℕ, ◌≡◌, ◌⊎◌, suc, ◌+◌, ◌*◌, ◌/◌, ◌%◌, ◌<◌, ◌≤◌, Bool, List, [], ◌∷◌}
+use Rattle.std.specs.Prelude.{◌++◌, length}
 use Rattle.std.specs.List.{AllByRecursion}
 use Rattle.schc_ids.specs.declared.fragments.FragMode.{FragMode}
 use Rattle.schc_ids.specs.declared.fragments.FragMode.TheVariants as mode
@@ -22,9 +23,11 @@ joined (part ∷ rest) = part ++ joined rest
 
 -- the tiles in their order are the packet
 abbrev pub TilesJoin : Type 0
-TilesJoin = (params : FragParams) (mtu : ℕ) (bits : List Bool) → IsMtu mtu → joined (tiles params mtu bits) ≡ bits
+TilesJoin = (params : FragParams) (mtu : ℕ) (bits : List Bool) → IsMtu mtu
+    → joined (tiles params mtu bits) ≡ bits
 
--- each tile but the last fills whole bytes with its header, in a frame of at most `mtu` bytes; the last one fits beside its
+-- each tile but the last fills whole bytes with its header, in a frame of at most `mtu` bytes; the
+-- last one fits beside its
 -- header and the RCS
 abbrev pub FitFrames : ℕ → ℕ → List ℕ → Type 0
 FitFrames header mtu [] = ⊥
@@ -66,20 +69,25 @@ Ascend from end (place ∷ places) = (from < place) × (place ≤ end) × Ascend
 -- each tile ends above the one before, and the last where the packet ends
 abbrev pub EndsAscend : Type 0
 EndsAscend =
-    (params : FragParams) (mtu bits : ℕ) → IsMtu mtu → 1 ≤ bits → Ascend 0 bits (tile_ends params mtu bits)
+    (params : FragParams) (mtu bits : ℕ) → IsMtu mtu → 1 ≤ bits
+    → Ascend 0 bits (tile_ends params mtu bits)
 
--- the run ends with this number: none is left, the next one is no successor, or it is of another window of 63
+-- the run ends with this number: none is left, the next one is no successor, or it is of another
+-- window of 63
 abbrev pub EndsAt : ℕ → List ℕ → Type 0
 EndsAt number [] = Unit {0}
 EndsAt number (next ∷ numbers) = (next ≡ suc number → ⊥) ⊎ (next / 63 ≡ number / 63 → ⊥)
 
--- RFC 8724, section 8.3.1.1: the longest front of the numbers that follow this one without a gap in its window, at most so
+-- RFC 8724, section 8.3.1.1: the longest front of the numbers that follow this one without a gap in
+-- its window, at most so
 -- many; and the others
-pub record IsLongestRun (most : ℕ) (number : ℕ) (numbers : List ℕ) (taken : ℕ × List ℕ) : Type 0 where
-  pub front : numbers ≡ numbers_from (suc number) taken.0 ++ taken.1
-  pub one_window : (number + taken.0) / 63 ≡ number / 63
-  pub few : taken.0 ≤ most
-  pub longest : (taken.0 ≡ most) ⊎ EndsAt (number + taken.0) taken.1
+pub record IsLongestRun (most : ℕ) (number : ℕ) (numbers : List ℕ) (taken : ℕ × List ℕ) : Type 0
+  where
+    pub front : numbers ≡ numbers_from (suc number) taken.0 ++ taken.1
+    pub one_window : (number + taken.0) / 63 ≡ number / 63
+    pub few : taken.0 ≤ most
+    pub longest : (taken.0 ≡ most) ⊎ EndsAt (number + taken.0) taken.1
 
 abbrev pub RunsAreLongest : Type 0
-RunsAreLongest = (most number : ℕ) (numbers : List ℕ) → IsLongestRun most number numbers (run 63 most number numbers)
+RunsAreLongest = (most number : ℕ) (numbers : List ℕ)
+    → IsLongestRun most number numbers (run 63 most number numbers)

@@ -1,6 +1,8 @@
--- RFC 8724, section 8.2.3: the reassembly check sequence is made over the SCHC packet and the padding of the fragment that
+-- RFC 8724, section 8.2.3: the reassembly check sequence is made over the SCHC packet and the
+-- padding of the fragment that
 -- carries its last tile.
-use Rattle.std.specs.Prelude.{ℕ, ◌+◌, ◌-◌, ◌%◌, Bool, false, List, [], ◌++◌, length, replicate, get_or}
+use Rattle.std.specs.Prelude.{ℕ, ◌+◌, ◌-◌, ◌%◌, Bool, false, List, [], ◌++◌, length, replicate}
+use Rattle.std.specs.Prelude.{get_or}
 use Rattle.schc_ids.specs.declared.fragments.FragParams.{FragParams}
 use Rattle.tiles_bitmap.specs.Tiles.{tiles}
 
@@ -18,4 +20,5 @@ all1_head params = params.w_bits + params.fcn_bits + 32
 
 -- the packet, and the zero bits that pad the All-1 with its last tile
 unfoldable pub padded_packet : FragParams → ℕ → List Bool → List Bool
-padded_packet params mtu bits = bits ++ fill (all1_head params + length (last_of (tiles params mtu bits)))
+padded_packet params mtu bits =
+    bits ++ fill (all1_head params + length (last_of (tiles params mtu bits)))

@@ -1,5 +1,7 @@
--- RFC 8724, section 8.2.2.3: the places of an SCHC packet's tiles, what is held of them, and bitmaps.
-use Rattle.std.specs.Prelude.{ℕ, ◌≡◌, ◌⊎◌, zero, suc, ◌*◌, ◌%◌, Bool, true, false, not, ◌==◌, List, [], ◌∷◌, ◌++◌, take, drop, if◌then◌else◌, Option, Some, None}
+-- RFC 8724, section 8.2.2.3: the places of an SCHC packet's tiles, what is held of them, and
+-- bitmaps.
+use Rattle.std.specs.Prelude.{ℕ, ◌≡◌, ◌⊎◌, zero, suc, ◌*◌, ◌%◌, Bool, true, false, not, ◌==◌, List}
+use Rattle.std.specs.Prelude.{[], ◌∷◌, ◌++◌, take, drop, if◌then◌else◌, Option, Some, None}
 
 -- the numbers from here on
 unfoldable pub numbers_from : ℕ → ℕ → List ℕ
@@ -49,7 +51,8 @@ no_gap (false ∷ bits) = none_true bits
 -- the lowest window below the last that isn't full, else the last
 unfoldable pub open_window : ℕ → ℕ → List Bool → ℕ
 open_window size zero bits = zero
-open_window size (suc last) bits = if all_true (take size bits) then suc (open_window size last (drop size bits)) else zero
+open_window size (suc last) bits =
+    if all_true (take size bits) then suc (open_window size last (drop size bits)) else zero
 
 unfoldable pub bitmap : ℕ → ℕ → List Bool → List Bool
 bitmap size window bits = take size (drop (window * size) bits)
@@ -75,11 +78,13 @@ unfoldable pub one_more : Bool → ℕ × List ℕ → List ℕ → ℕ × List 
 one_more true rest numbers = (suc rest.0, rest.1)
 one_more false rest numbers = (zero, numbers)
 
--- how many of the numbers follow this one without a gap in its window, at most so many; and the others
+-- how many of the numbers follow this one without a gap in its window, at most so many; and the
+-- others
 unfoldable pub run : ℕ → ℕ → ℕ → List ℕ → ℕ × List ℕ
 run size zero k numbers = (zero, numbers)
 run size (suc most) k [] = (zero, [])
-run size (suc most) k (next ∷ numbers) = one_more (goes_on size k next) (run size most next numbers) (next ∷ numbers)
+run size (suc most) k (next ∷ numbers) =
+    one_more (goes_on size k next) (run size most next numbers) (next ∷ numbers)
 
 -- the item is one of the list
 abbrev pub Among : {A : Type 0} → A → List A → Type 0

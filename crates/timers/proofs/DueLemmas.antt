@@ -1,5 +1,7 @@
 -- Which key is taken out, and when a timer is due.
-use Rattle.std.proofs.Common.{arith, ap, refl, ◌∙◌, ℕ, suc, zero, ◌≡◌, ◌≢◌, ◌+◌, ◌-◌, ◌<◌, ◌≤◌, ◌⊎◌, inl, inr, Bool, true, false, cond, List, [], ◌∷◌, Option, None, Some, length, slice_set, get_or}
+use Rattle.std.proofs.Common.{arith, ap, refl, ◌∙◌, ℕ, suc, zero, ◌≡◌, ◌≢◌, ◌+◌, ◌-◌, ◌<◌, ◌≤◌, ◌⊎◌}
+use Rattle.std.proofs.Common.{inl, inr, Bool, true, false, cond, List, [], ◌∷◌, Option, None, Some}
+use Rattle.std.proofs.Common.{length, slice_set, get_or}
 use Rattle.std.proofs.Common.{subst, ◌↔◌, get_or-set_same, get_or-set_other}
 use Rattle.std.proofs.Math.ListN.{get_or-map}
 use Rattle.std.proofs.lemmas.Bool.{eqb-true, eq-eqb}
@@ -15,12 +17,15 @@ cond-none false n o e = (refl, e)
 none-from : (timers : List (Option ℕ)) (start : ℕ) → position_from is_due start timers ≡ None →
     (key : ℕ) → is_due (get_or timers key None) ≡ false
 none-from [] start e key = refl
-none-from (x ∷ xs) start e zero = (cond-none (is_due x) start (position_from is_due (start + 1) xs) e).0
+none-from (x ∷ xs) start e zero =
+    (cond-none (is_due x) start (position_from is_due (start + 1) xs) e).0
 none-from (x ∷ xs) start e (suc key) =
-    none-from xs (start + 1) (cond-none (is_due x) start (position_from is_due (start + 1) xs) e).1 key
+    none-from xs (start + 1) (cond-none (is_due x) start (position_from is_due (start + 1) xs) e).1
+    key
 
 -- where none is found, none is due
-pub none_due : (timers : List (Option ℕ)) → first_due timers ≡ None → (key : ℕ) → is_due (get_or timers key None) ≡ false
+pub none_due : (timers : List (Option ℕ)) → first_due timers ≡ None → (key : ℕ)
+    → is_due (get_or timers key None) ≡ false
 none_due timers e key = none-from timers 0 (first_due_from_zero timers ∙ e) key
 
 -- place i is due, and none before it
@@ -30,22 +35,26 @@ pub record IsLowest (timers : List (Option ℕ)) (i : ℕ) : Type 0 where
   pub below : (lower : ℕ) → lower < i → is_due (get_or timers lower None) ≡ false
 
 lowest-here : (x : Option ℕ) (xs : List (Option ℕ)) → is_due x ≡ true → IsLowest (x ∷ xs) 0
-lowest-here x xs e = record { inside = omega arith; due = e; below = λ lower h. absurd (omega (arith, h)) }
+lowest-here x xs e =
+    record { inside = omega arith; due = e; below = λ lower h. absurd (omega (arith, h)) }
 
 not-below : (x : Option ℕ) (xs : List (Option ℕ)) (i : ℕ) → is_due x ≡ false → IsLowest xs i →
     (lower : ℕ) → lower < suc i → is_due (get_or (x ∷ xs) lower None) ≡ false
 not-below x xs i e l zero h = e
 not-below x xs i e l (suc lower) h = l.below lower (omega (arith, h))
 
-lowest-later : (x : Option ℕ) (xs : List (Option ℕ)) (i : ℕ) → is_due x ≡ false → IsLowest xs i → IsLowest (x ∷ xs) (suc i)
-lowest-later x xs i e l = record { inside = omega (arith, l.inside); due = l.due; below = not-below x xs i e l }
+lowest-later : (x : Option ℕ) (xs : List (Option ℕ)) (i : ℕ) → is_due x ≡ false → IsLowest xs i
+    → IsLowest (x ∷ xs) (suc i)
+lowest-later x xs i e l =
+    record { inside = omega (arith, l.inside); due = l.due; below = not-below x xs i e l }
 
 cond-some : (b : Bool) (n key : ℕ) (o : Option ℕ) → cond b (Some n) o ≡ Some key →
     ((b ≡ true) × (n ≡ key)) ⊎ ((b ≡ false) × (o ≡ Some key))
 cond-some true n key o e = inl (refl, cc)
 cond-some false n key o e = inr (refl, e)
 
-lowest-from : (timers : List (Option ℕ)) (start key : ℕ) → position_from is_due start timers ≡ Some key →
+lowest-from : (timers : List (Option ℕ)) (start key : ℕ)
+    → position_from is_due start timers ≡ Some key →
     (i : ℕ) × ((key ≡ start + i) × IsLowest timers i)
 lowest-from [] start key e = absurd (cc)
 lowest-from (x ∷ xs) start key e =
@@ -57,7 +66,8 @@ lowest-from (x ∷ xs) start key e =
     ]
 
 -- the key that is found is the lowest that is due
-pub lowest : (timers : List (Option ℕ)) (key : ℕ) → first_due timers ≡ Some key → IsLowest timers key
+pub lowest : (timers : List (Option ℕ)) (key : ℕ) → first_due timers ≡ Some key
+    → IsLowest timers key
 lowest timers key e =
     let r = lowest-from timers 0 key (first_due_from_zero timers ∙ e) in
     let same : r.0 ≡ key = omega (arith, r.1.0) in
@@ -67,7 +77,8 @@ ticks-left : (n : ℕ) (timers : List (Option ℕ)) (key t : ℕ) → get_or tim
     get_or (ticks_pass n timers) key None ≡ Some (t - n)
 ticks-left zero timers key t e = let none : t - 0 ≡ t = omega arith in rw none e
 ticks-left (suc n) timers key t e =
-    let one : get_or (tick_step timers) key None ≡ Some (t - 1) = get_or-map ticked timers key None ∙ ap ticked e in
+    let one : get_or (tick_step timers) key None ≡ Some (t - 1) = get_or-map ticked timers key None
+    ∙ ap ticked e in
     let less : t - suc n ≡ t - 1 - n = omega arith in
     rw less (ticks-left n (tick_step timers) key (t - 1) one)
 
@@ -75,14 +86,17 @@ ticks-left (suc n) timers key t e =
 pub due_at_its_tick : (timers : List (Option ℕ)) (key t n : ℕ) → key < length timers →
     (is_due (get_or (ticks_pass n (slice_set timers key (Some t))) key None) ≡ true) ↔ (t ≤ n)
 due_at_its_tick timers key t n h =
-    let left = ticks-left n (slice_set timers key (Some t)) key t (get_or-set_same timers key (Some t) None h) in
+    let left =
+    ticks-left n (slice_set timers key (Some t)) key t
+    (get_or-set_same timers key (Some t) None h) in
     rw left (
       (λ e. let none = eqb-true (t - n) 0 e in omega (arith, none)),
       (λ e. eq-eqb (t - n) 0 (omega (arith, e))),
     )
 
 -- a key that is taken out isn't due
-pub without_own : (timers : List (Option ℕ)) (key : ℕ) → is_due (get_or (without timers (Some key)) key None) ≡ false
+pub without_own : (timers : List (Option ℕ)) (key : ℕ)
+    → is_due (get_or (without timers (Some key)) key None) ≡ false
 without_own [] key = refl
 without_own (x ∷ xs) zero = refl
 without_own (x ∷ xs) (suc key) = without_own xs key

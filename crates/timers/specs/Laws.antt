@@ -1,5 +1,6 @@
 -- What holds of the timers of every set.
-use Rattle.std.specs.Prelude.{ℕ, zero, suc, ◌≡◌, ◌<◌, ◌≤◌, ◌↔◌, ◌≢◌, true, false, Option, None, Some, List, length, slice_index_or, slice_set}
+use Rattle.std.specs.Prelude.{ℕ, zero, suc, ◌≡◌, ◌<◌, ◌≤◌, ◌↔◌, ◌≢◌, true, false, Option, None}
+use Rattle.std.specs.Prelude.{Some, List, length, slice_index_or, slice_set}
 use Rattle.timers.specs.Timers.{is_due, tick_step, first_due, without}
 
 -- so many ticks pass
@@ -11,7 +12,8 @@ ticks_pass (suc n) timers = ticks_pass n (tick_step timers)
 abbrev pub DueAtItsTick : Type 0
 DueAtItsTick =
     (timers : List (Option ℕ)) (key t n : ℕ) → key < length timers →
-    (is_due (slice_index_or (ticks_pass n (slice_set timers key (Some t))) key None) ≡ true) ↔ (t ≤ n)
+    (is_due (slice_index_or (ticks_pass n (slice_set timers key (Some t))) key None) ≡ true) ↔
+    (t ≤ n)
 
 -- the key that is taken out is due, and none below it is
 abbrev pub TakesTheLowest : Type 0
@@ -31,4 +33,5 @@ abbrev pub WithoutOne : Type 0
 WithoutOne =
     (timers : List (Option ℕ)) (key other : ℕ) →
     (is_due (slice_index_or (without timers (Some key)) key None) ≡ false) ×
-    (other ≢ key → slice_index_or (without timers (Some key)) other None ≡ slice_index_or timers other None)
+    (other ≢ key
+    → slice_index_or (without timers (Some key)) other None ≡ slice_index_or timers other None)

@@ -1,5 +1,6 @@
 -- Taking out what is due, key by key, in a layer that keeps more than the timers.
-use Rattle.std.specs.Prelude.{ℕ, zero, suc, ◌≡◌, ◌≢◌, Bool, true, false, Option, None, List, slice_index_or}
+use Rattle.std.specs.Prelude.{ℕ, zero, suc, ◌≡◌, ◌≢◌, Bool, true, false, Option, None, List}
+use Rattle.std.specs.Prelude.{slice_index_or}
 use Rattle.timers.specs.Timers.{is_due}
 
 -- what the layer does at a key: it fires where the timer is due
@@ -19,4 +20,5 @@ sweep lefts fire (suc n) at s = sweep lefts fire n (suc at) (met fire at s (due_
 -- firing leaves its own key not due, and makes no other key due
 pub record Settles {S : Type 0} (lefts : S → List (Option ℕ)) (fire : ℕ → S → S) : Type 0 where
   pub own : (key : ℕ) (s : S) → due_at lefts key (fire key s) ≡ false
-  pub others : (key other : ℕ) (s : S) → other ≢ key → due_at lefts other (fire key s) ≡ due_at lefts other s
+  pub others : (key other : ℕ) (s : S) → other ≢ key
+      → due_at lefts other (fire key s) ≡ due_at lefts other s

@@ -1,6 +1,8 @@
--- The wheel: deadlines, the set of the keys whose deadline has come, and the places of the others. Each of the four levels has
+-- The wheel: deadlines, the set of the keys whose deadline has come, and the places of the others.
+-- Each of the four levels has
 -- 32 places, at level l of 32 ^ l ticks each: the ticks from n 32 ^ l on are those of place n % 32.
-use Rattle.std.specs.Prelude.{ℕ, ◌⊎◌, ◌≡◌, ◌≢◌, ◌<◌, ◌≤◌, ◌+◌, ◌-◌, ◌*◌, ◌/◌, ◌%◌, ◌^◌, Bool, true, false, Option, None, Some, List, length, slice_set, slice_index_or}
+use Rattle.std.specs.Prelude.{ℕ, ◌⊎◌, ◌≡◌, ◌≢◌, ◌<◌, ◌≤◌, ◌+◌, ◌-◌, ◌*◌, ◌/◌, ◌%◌, ◌^◌, Bool, true}
+use Rattle.std.specs.Prelude.{false, Option, None, Some, List, length, slice_set, slice_index_or}
 
 -- the ticks that are left of a deadline
 abbrev pub left : ℕ → Option ℕ → Option ℕ
@@ -20,10 +22,12 @@ pub record IsAhead (now at place : ℕ) : Type 0 where
   pub in_time : number ≤ at / 32 ^ level
   pub place_is : place ≡ place_at level number
 
--- a key whose deadline has come is in the set, and one whose deadline is to come is at a place ahead
+-- a key whose deadline has come is in the set, and one whose deadline is to come is at a place
+-- ahead
 abbrev pub IsFiled : ℕ → Option ℕ → Bool → ℕ → Type 0
 IsFiled now None member place = member ≡ false
-IsFiled now (Some at) member place = ((at ≤ now) × (member ≡ true)) ⊎ ((member ≡ false) × IsAhead now at place)
+IsFiled now (Some at) member place = ((at ≤ now) × (member ≡ true))
+    ⊎ ((member ≡ false) × IsAhead now at place)
 
 -- the place begins now, at a level from `from` on
 pub record Begins (now from place : ℕ) : Type 0 where
@@ -33,23 +37,28 @@ pub record Begins (now from place : ℕ) : Type 0 where
   pub begins : now % 32 ^ level ≡ 0
   pub place_is : place ≡ place_at level (now / 32 ^ level)
 
--- a key is filed, or it is at a place that begins now and isn't opened yet: the levels below `from` are
+-- a key is filed, or it is at a place that begins now and isn't opened yet: the levels below `from`
+-- are
 abbrev pub IsFiledFrom : ℕ → ℕ → Option ℕ → Bool → ℕ → Type 0
-IsFiledFrom now from deadline member place = IsFiled now deadline member place ⊎ ((member ≡ false) × Begins now from place)
+IsFiledFrom now from deadline member place = IsFiled now deadline member place
+    ⊎ ((member ≡ false) × Begins now from place)
 
 -- so is the key with this number
 abbrev pub IsKeyFiled : ℕ → ℕ → List (Option ℕ) → List Bool → List ℕ → ℕ → Type 0
 IsKeyFiled now from deadlines members places key =
-    IsFiledFrom now from (slice_index_or deadlines key None) (slice_index_or members key false) (slice_index_or places (128 + key) 0)
+    IsFiledFrom now from (slice_index_or deadlines key None) (slice_index_or members key false)
+    (slice_index_or places (128 + key) 0)
 
 -- so is each key; the lists have all keys
-pub record IsIndex (now from : ℕ) (deadlines : List (Option ℕ)) (members : List Bool) (places : List ℕ) : Type 0 where
+pub record IsIndex (now from : ℕ) (deadlines : List (Option ℕ)) (members : List Bool)
+    (places : List ℕ) : Type 0 where
   pub members_len : length members ≡ length deadlines
   pub places_len : length places ≡ 128 + length deadlines
   pub at : (key : ℕ) → key < length deadlines → IsKeyFiled now from deadlines members places key
 
 -- all levels are opened
-pub record IsWheel (now : ℕ) (deadlines : List (Option ℕ)) (members : List Bool) (places : List ℕ) : Type 0 where
+pub record IsWheel (now : ℕ) (deadlines : List (Option ℕ)) (members : List Bool)
+    (places : List ℕ) : Type 0 where
   pub below_last : now ≤ 2 ^ 31
   pub keys : length deadlines < 2 ^ 32
   pub index : IsIndex now 4 deadlines members places
@@ -69,7 +78,8 @@ abbrev pub IsElsewhere : ℕ → ℕ → Type 0
 IsElsewhere now place = (level : ℕ) → level < 4 → place ≢ place_at level (now / 32 ^ level)
 
 -- a key is filed anew, and the others stay
-pub record IsFiledAnew (now key : ℕ) (deadline : Option ℕ) (members members' : List Bool) (places places' : List ℕ) : Type 0 where
+pub record IsFiledAnew (now key : ℕ) (deadline : Option ℕ) (members members' : List Bool)
+    (places places' : List ℕ) : Type 0 where
   pub member : Bool
   pub place : ℕ
   pub members_are : members' ≡ slice_set members key member

@@ -50,24 +50,31 @@ target_text target.Device = codes "dev"
 target_text target.Gateway = codes "gw"
 target_text target.Both = codes "both"
 
--- the words of an event, without the packet of a hand-down and without the edition that is published
+-- the words of an event, without the packet of a hand-down and without the edition that is
+-- published
 unfoldable pub event_text : ℕ → Event → List ℕ
-event_text device (Down role packet) = codes "hand " ++ (decimal device ++ (codes " " ++ role_text role))
+event_text device (Down role packet) =
+    codes "hand " ++ (decimal device ++ (codes " " ++ role_text role))
 event_text device (Slot role) = codes "slot " ++ (decimal device ++ (codes " " ++ role_text role))
 event_text device (Deliver direction place) =
-    codes "deliver " ++ (decimal device ++ (codes " " ++ (direction_text direction ++ (codes " " ++ decimal place))))
-event_text device (Tick target) = codes "tick " ++ (decimal device ++ (codes " " ++ target_text target))
+    codes "deliver " ++ (decimal
+    device ++ (codes " " ++ (direction_text direction ++ (codes " " ++ decimal place))))
+event_text device (Tick target) =
+    codes "tick " ++ (decimal device ++ (codes " " ++ target_text target))
 event_text device (Abort role) = codes "abort " ++ (decimal device ++ (codes " " ++ role_text role))
 event_text device (Publish raw) = codes "publish"
 event_text device (Offer role number) =
-    codes "offer " ++ (decimal device ++ (codes " " ++ (role_text role ++ (codes " " ++ decimal number))))
+    codes "offer " ++ (decimal
+    device ++ (codes " " ++ (role_text role ++ (codes " " ++ decimal number))))
 event_text device (Allow role number) =
-    codes "allow " ++ (decimal device ++ (codes " " ++ (role_text role ++ (codes " " ++ decimal number))))
+    codes "allow " ++ (decimal
+    device ++ (codes " " ++ (role_text role ++ (codes " " ++ decimal number))))
 
 -- how a packet that was handed down will go
 unfoldable pub accepted_text : Accepted → List ℕ
 accepted_text a =
-    codes "ok edition " ++ (decimal a.edition ++ (codes " rule " ++ (decimal a.rule_id ++ (codes " bits " ++ decimal a.bits))))
+    codes "ok edition " ++ (decimal
+    a.edition ++ (codes " rule " ++ (decimal a.rule_id ++ (codes " bits " ++ decimal a.bits))))
 
 -- why a packet that was handed down is refused; want of memory is no reason
 abbrev pub refusal_text : DownFault → List ℕ
@@ -107,17 +114,20 @@ report_text (Some report) = codes " report " ++ session_text report
 -- the same at one end, which is named
 unfoldable pub report_at : Role → Option Report → List ℕ
 report_at role None = []
-report_at role (Some report) = codes " report " ++ (role_text role ++ (codes " " ++ session_text report))
+report_at role (Some report) =
+    codes " report " ++ (role_text role ++ (codes " " ++ session_text report))
 
 -- a frame with its number
 unfoldable pub frame_text : ℕ → FrameData → List ℕ
 frame_text number frame =
-    codes "frame " ++ (decimal number ++ (codes " port " ++ (decimal frame.port ++ (codes " " ++ bytes_text frame.bytes))))
+    codes "frame " ++ (decimal
+    number ++ (codes " port " ++ (decimal frame.port ++ (codes " " ++ bytes_text frame.bytes))))
 
 -- the same, what the frame carries, and the session that ended with it
 unfoldable pub emission_text : Emission → List ℕ
 emission_text e =
-    frame_text e.number e.emitted.frame ++ (codes " " ++ (kind_text e.emitted.kind ++ report_text e.emitted.report))
+    frame_text e.number
+    e.emitted.frame ++ (codes " " ++ (kind_text e.emitted.kind ++ report_text e.emitted.report))
 
 -- what a slot gave: a frame, or nothing
 unfoldable pub slot_text : Option Emission → List ℕ
@@ -203,4 +213,5 @@ IsSaid _ = Unit {0}
 -- the line of an event of this device: the event's place from 1, its words and its outcome
 unfoldable pub line_text : ℕ → Event → Line → ℕ → List ℕ
 line_text device event line place =
-    decimal place ++ (codes " " ++ (event_text device event ++ (codes " " ++ (said_text line ++ codes "\n"))))
+    decimal place ++ (codes
+    " " ++ (event_text device event ++ (codes " " ++ (said_text line ++ codes "\n"))))

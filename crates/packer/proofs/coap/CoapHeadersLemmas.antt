@@ -11,20 +11,28 @@ use Rattle.rule_model.specs.SplitData.{SplitData}
 use Rattle.ip_udp_fields.specs.Fields.{FieldsOf}
 use Rattle.ip_udp_fields.specs.Refusals.{refusal}
 use Rattle.coap_fields.specs.Reading.{message_in, IsRefusal}
-use Rattle.packer.specs.Packets.{split_headers, with_message, split_message, split_of, computed_over}
+use Rattle.packer.specs.Packets.{split_headers, with_message, split_message, split_of}
+use Rattle.packer.specs.Packets.{computed_over}
 use Rattle.packer.specs.Splits.{is_memory}
 use Rattle.packer.proofs.SplitLemmas.{fields-split_headers}
 
 -- a message that is read
-pub message-some : (headers message split : SplitData) (read : Result SplitData ℕ) → read ≡ Ok message → with_message headers (Ok message) ≡ Some split → Some split ≡ with_message headers read
+pub message-some : (headers message split : SplitData) (read : Result SplitData ℕ)
+    → read ≡ Ok message → with_message headers (Ok message) ≡ Some split
+    → Some split ≡ with_message headers read
 message-some headers message split read r e = sym e ∙ ap (with_message headers) (sym r)
 
 -- and none
-pub message-none : (headers : SplitData) (fault : SplitFault) (read : Result SplitData ℕ) → IsRefusal fault read → is_memory fault ≡ false → None ≡ with_message headers read
+pub message-none : (headers : SplitData) (fault : SplitFault) (read : Result SplitData ℕ)
+    → IsRefusal fault read → is_memory fault ≡ false → None ≡ with_message headers read
 message-none headers Memory read r other = absurd (cc)
 message-none headers (NotCoap place) read r other = ap (with_message headers) (sym r)
 message-none headers _ read r other = absurd r
 
-pub headers-there : (direction : Direction) (packet : List ℕ) (headers : SplitData) → FieldsOf stack.IpUdp direction packet headers.fields headers.payload_from → split_of stack.IpUdpCoap direction packet ≡ with_message headers (message_in (drop 48 packet))
+pub headers-there : (direction : Direction) (packet : List ℕ) (headers : SplitData)
+    → FieldsOf stack.IpUdp direction packet headers.fields headers.payload_from
+    → split_of stack.IpUdpCoap direction packet ≡ with_message headers (message_in (drop 48 packet))
 unfolding split_of
-headers-there direction packet headers p = ap (split_message packet) (fields-split_headers stack.IpUdp direction packet headers.fields headers.payload_from tt p)
+headers-there direction packet headers p =
+    ap (split_message packet)
+    (fields-split_headers stack.IpUdp direction packet headers.fields headers.payload_from tt p)

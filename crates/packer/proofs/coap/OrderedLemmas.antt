@@ -11,13 +11,18 @@ use Rattle.packer.proofs.coap.AscendLemmas.{AscendsAfter, ascends-order, ascends
 use Rattle.packer.proofs.FirstPartsLemmas.{append-none}
 
 -- the fields aren't refused
-pub refusal-order : (fields : List FieldValue) → join_refusal fields ≡ None → first_held (order 0 0 fields) ≡ None
+pub refusal-order : (fields : List FieldValue) → join_refusal fields ≡ None
+    → first_held (order 0 0 fields) ≡ None
 unfolding join_refusal
 refusal-order fields h =
-    (append-none (order 0 0 fields) (value_refusals fields ++ gaps 0 0 fields) (append-none (presence fields coap_fields) (order 0 0 fields ++ (value_refusals fields ++ gaps 0 0 fields)) h).1).0
+    (append-none (order 0 0 fields) (value_refusals fields ++ gaps 0 0 fields)
+    (append-none (presence fields coap_fields)
+    (order 0 0 fields ++ (value_refusals fields ++ gaps 0 0 fields)) h).1).0
 
 pub message-ascends : (m : Message) → IsMessage m → AscendsAfter 0 0 (fields_of_message m)
-message-ascends m h = ascends-order 0 0 (fields_of_message m) (refusal-order (fields_of_message m) (message-joins m h))
+message-ascends m h =
+    ascends-order 0 0 (fields_of_message m)
+    (refusal-order (fields_of_message m) (message-joins m h))
 
 pub message-once : (m : Message) → IsMessage m → AllPairs (λ f g. f.at ≢ g.at) (fields_of_message m)
 message-once m h = ascends-once 0 0 (fields_of_message m) (message-ascends m h)

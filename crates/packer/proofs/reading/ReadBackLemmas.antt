@@ -22,29 +22,48 @@ use Rattle.packer.proofs.coap.CoapRestoredLemmas.{reads-coap, IsReadBack-coap}
 use Rattle.packer.proofs.reading.OneRestoredLemmas.{one-restored}
 use Rattle.packer.proofs.coap.CoapOneLemmas.{one-coap}
 
-module _ (rule : RuleData) (iids : Iids) (direction : Direction) (packet : List ℕ) (fields : List FieldValue) (from : ℕ) (p : PacketOf (stack_of rule) direction packet fields from) (matches : Matches rule iids direction fields (computed_over (stack_of rule) packet)) where
+module _ (rule : RuleData) (iids : Iids) (direction : Direction) (packet : List ℕ)
+    (fields : List FieldValue) (from : ℕ)
+    (p : PacketOf (stack_of rule) direction packet fields from)
+    (matches : Matches rule iids direction fields (computed_over (stack_of rule) packet)) where
   -- a rule that matches a packet reads packets of its direction
   pub reads-packet : reads rule direction ≡ true
   reads-packet =
       elim (stack-cases (stack_of rule)) [
-        | inl without ↦ reads-matching rule iids direction packet fields from (computed_over (stack_of rule) packet) (PacketOf-fields (stack_of rule) direction packet fields from without p) matches
+        | inl without ↦ reads-matching rule iids direction packet fields from
+            (computed_over (stack_of rule) packet)
+            (PacketOf-fields (stack_of rule) direction packet fields from without p) matches
         | inr s ↦
-            reads-coap rule iids direction packet fields from (computed_over (stack_of rule) packet) s (subst (λ (of : Stack). PacketOf of direction packet fields from) s p) matches
+            reads-coap rule iids direction packet fields from (computed_over (stack_of rule) packet)
+            s (subst (λ (of : Stack). PacketOf of direction packet fields from) s p) matches
       ]
 
-  pub read-back : (padding : List Bool) → IsAdmitted rule → AreBytes (drop from packet) → length padding ≤ 7 → IsReadBack rule iids direction packet (residue_of rule direction fields ++ (octets (drop from packet) ++ padding))
+  pub read-back : (padding : List Bool) → IsAdmitted rule → AreBytes (drop from packet)
+      → length padding ≤ 7
+      → IsReadBack rule iids direction packet
+      (residue_of rule direction fields ++ (octets (drop from packet) ++ padding))
   read-back padding admitted bytes short =
       elim (stack-cases (stack_of rule)) [
-        | inl without ↦ IsReadBack-fields rule iids direction packet fields from admitted (PacketOf-fields (stack_of rule) direction packet fields from without p) matches padding bytes short
+        | inl without ↦ IsReadBack-fields rule iids direction packet fields from admitted
+            (PacketOf-fields (stack_of rule) direction packet fields from without p) matches padding
+            bytes short
         | inr s ↦
-            IsReadBack-coap rule iids direction packet fields from s admitted (subst (λ (of : Stack). PacketOf of direction packet fields from) s p) matches padding bytes short
+            IsReadBack-coap rule iids direction packet fields from s admitted
+            (subst (λ (of : Stack). PacketOf of direction packet fields from) s p) matches
+            padding bytes short
       ]
 
-  pub restored-one : (this that : List ℕ) → IsAdmitted rule → IsRestored rule direction packet this → IsRestored rule direction packet that → AreBytes this → AreBytes that → this ≡ that
+  pub restored-one : (this that : List ℕ) → IsAdmitted rule → IsRestored rule direction packet this
+      → IsRestored rule direction packet that → AreBytes this → AreBytes that → this ≡ that
   restored-one this that admitted r t a b =
       elim (stack-cases (stack_of rule)) [
         | inl without ↦
-            one-restored rule direction packet this that fields from (Covers-from_reads rule direction admitted without reads-packet) (PacketOf-fields (stack_of rule) direction packet fields from without p) r t a b
+            one-restored rule direction packet this that fields from
+            (Covers-from_reads rule direction admitted without reads-packet)
+            (PacketOf-fields (stack_of rule) direction packet fields from without p) r t a b
         | inr s ↦
-            one-coap rule iids direction packet this that fields from (computed_over (stack_of rule) packet) s (subst (λ (of : Stack). PacketOf of direction packet fields from) s p) matches r t a b
+            one-coap rule iids direction packet this that fields from
+            (computed_over (stack_of rule) packet) s
+            (subst (λ (of : Stack). PacketOf of direction packet fields from) s p) matches r t a
+            b
       ]

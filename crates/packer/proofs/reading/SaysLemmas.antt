@@ -1,5 +1,7 @@
--- What is read is what the bits say, where nothing is read they say nothing, and how long a packet that is read is.
-use Rattle.std.specs.Prelude.{ℕ, ◌≡◌, ◌+◌, ◌-◌, ◌*◌, ◌<◌, ◌≤◌, ◌⊎◌, Bool, true, List, ◌++◌, length, drop, Result, Ok, Err, IfOk}
+-- What is read is what the bits say, where nothing is read they say nothing, and how long a packet
+-- that is read is.
+use Rattle.std.specs.Prelude.{ℕ, ◌≡◌, ◌+◌, ◌-◌, ◌*◌, ◌<◌, ◌≤◌, ◌⊎◌, Bool, true, List, ◌++◌, length}
+use Rattle.std.specs.Prelude.{drop, Result, Ok, Err, IfOk}
 use Rattle.std.proofs.Common.{arith, ap, refl, sym, ◌∙◌, inl, inr}
 use Rattle.std.proofs.lemmas.Bool.{lt-ltb}
 use Rattle.std.proofs.lemmas.List.{length-append}
@@ -25,11 +27,13 @@ use Rattle.packer.proofs.TriedLemmas.{ipv6-of}
 use Rattle.packer.proofs.reading.UnpackedLemmas.{sound, complete}
 
 -- too few bits
-short_read : (edition : EditionData) (iids : Iids) (direction : Direction) (bits : List Bool) → length bits < 8 → unpacked edition iids direction bits ≡ Err (BadResidue 0 Short)
+short_read : (edition : EditionData) (iids : Iids) (direction : Direction) (bits : List Bool)
+    → length bits < 8 → unpacked edition iids direction bits ≡ Err (BadResidue 0 Short)
 unfolding unpacked
 short_read edition iids direction bits few = rw (lt-ltb (length bits) 8 few) refl
 
-whole_length : (bits : List Bool) (packet : List ℕ) → DecodesWhole bits packet → 8 + 8 * length packet ≤ length bits
+whole_length : (bits : List Bool) (packet : List ℕ) → DecodesWhole bits packet
+    → 8 + 8 * length packet ≤ length bits
 whole_length bits packet d =
     omega (
       arith,
@@ -40,8 +44,10 @@ whole_length bits packet d =
       length-octets packet,
     )
 
-short_none : (edition : EditionData) (iids : Iids) (direction : Direction) (bits : List Bool) (packet : List ℕ) (id : ℕ) → length bits < 8 → Decodes edition iids direction bits packet id → ⊥
-short_none edition iids direction bits packet id few (whole bytes d) = absurd (omega (arith, few, whole_length bits packet d))
+short_none : (edition : EditionData) (iids : Iids) (direction : Direction) (bits : List Bool)
+    (packet : List ℕ) (id : ℕ) → length bits < 8 → Decodes edition iids direction bits packet id → ⊥
+short_none edition iids direction bits packet id few (whole bytes d) =
+    absurd (omega (arith, few, whole_length bits packet d))
 short_none edition iids direction bits packet id few (by_rule it listed bytes other found d) =
     absurd (omega (
       arith,
@@ -49,32 +55,63 @@ short_none edition iids direction bits packet id few (by_rule it listed bytes ot
       ap (λ (b : List Bool). length b) d.bits_are,
       length-append d.schc_packet d.padding,
       ap (λ (b : List Bool). length b) d.its_schc_packet.bits_are,
-      length-append (number_bits 8 listed.rule.id) (residue_of listed.rule direction d.its_schc_packet.fields ++ octets (drop d.its_schc_packet.payload_from packet)),
+      length-append (number_bits 8 listed.rule.id)
+          (residue_of listed.rule direction d.its_schc_packet.fields ++ octets
+          (drop d.its_schc_packet.payload_from packet)),
       length-number_bits 8 listed.rule.id,
     ))
 
-pub says-read : (edition : EditionData) (iids : Iids) (direction : Direction) (bits : List Bool) (read : UnpackedData) → (length bits < 8) ⊎ IsSound edition → HasOptionsUnder edition direction read.rule_id → unpacked edition iids direction bits ≡ Ok read → Decodes edition iids direction bits read.packet read.rule_id
-says-read edition iids direction bits read (inl few) options e = let both : ◌≡◌ {A = Result UnpackedData UnpackFault} (Err (BadResidue 0 Short)) (Ok read) = sym (short_read edition iids direction bits few) ∙ e in absurd (cc)
-says-read edition iids direction bits read (inr is) options e = sound edition iids direction bits read is options e
+pub says-read : (edition : EditionData) (iids : Iids) (direction : Direction) (bits : List Bool)
+    (read : UnpackedData) → (length bits < 8) ⊎ IsSound edition
+    → HasOptionsUnder edition direction read.rule_id
+    → unpacked edition iids direction bits ≡ Ok read
+    → Decodes edition iids direction bits read.packet read.rule_id
+says-read edition iids direction bits read (inl few) options e =
+    let both : ◌≡◌ {A = Result UnpackedData UnpackFault} (Err (BadResidue 0 Short)) (Ok read) =
+    sym (short_read edition iids direction bits few) ∙ e in absurd (cc)
+says-read edition iids direction bits read (inr is) options e =
+    sound edition iids direction bits read is options e
 
-nothing : (edition : EditionData) (iids : Iids) (direction : Direction) (bits : List Bool) (fault : UnpackFault) → (length bits < 8) ⊎ IsSound edition → unpacked edition iids direction bits ≡ Err fault → NothingDecodes edition iids direction bits
-nothing edition iids direction bits fault (inl few) e packet id d = short_none edition iids direction bits packet id few d
+nothing : (edition : EditionData) (iids : Iids) (direction : Direction) (bits : List Bool)
+    (fault : UnpackFault) → (length bits < 8) ⊎ IsSound edition
+    → unpacked edition iids direction bits ≡ Err fault → NothingDecodes edition iids direction bits
+nothing edition iids direction bits fault (inl few) e packet id d =
+    short_none edition iids direction bits packet id few d
 nothing edition iids direction bits fault (inr is) e packet id d =
     let read : UnpackedData = record { rule_id = id; packet = packet } in
-    let both : ◌≡◌ {A = Result UnpackedData UnpackFault} (Ok read) (Err fault) = sym (complete edition iids direction bits packet id is d) ∙ e in
+    let both : ◌≡◌ {A = Result UnpackedData UnpackFault} (Ok read) (Err fault) =
+    sym (complete edition iids direction bits packet id is d) ∙ e in
     absurd (cc)
 
-pub none-read : (edition : EditionData) (iids : Iids) (direction : Direction) (bits : List Bool) (fault : UnpackFault) → (length bits < 8) ⊎ IsSound edition → (fault ≡ Memory) ⊎ (unpacked edition iids direction bits ≡ Err fault) → (fault ≡ Memory) ⊎ NothingDecodes edition iids direction bits
+pub none-read : (edition : EditionData) (iids : Iids) (direction : Direction) (bits : List Bool)
+    (fault : UnpackFault) → (length bits < 8) ⊎ IsSound edition → (fault ≡ Memory)
+    ⊎ (unpacked edition iids direction bits ≡ Err fault) → (fault ≡ Memory)
+    ⊎ NothingDecodes edition iids direction bits
 none-read edition iids direction bits fault sound (inl memory) = inl memory
-none-read edition iids direction bits fault sound (inr e) = inr (nothing edition iids direction bits fault sound e)
+none-read edition iids direction bits fault sound (inr e) =
+    inr (nothing edition iids direction bits fault sound e)
 
-decoded-length : (edition : EditionData) (iids : Iids) (direction : Direction) (bits : List Bool) (packet : List ℕ) (id : ℕ) → Decodes edition iids direction bits packet id → (length packet ≤ 65575) ⊎ (8 * length packet ≤ length bits)
-decoded-length edition iids direction bits packet id (whole bytes d) = inr (omega (arith, whole_length bits packet d))
+decoded-length : (edition : EditionData) (iids : Iids) (direction : Direction) (bits : List Bool)
+    (packet : List ℕ) (id : ℕ) → Decodes edition iids direction bits packet id
+    → (length packet ≤ 65575) ⊎ (8 * length packet ≤ length bits)
+decoded-length edition iids direction bits packet id (whole bytes d) =
+    inr (omega (arith, whole_length bits packet d))
 decoded-length edition iids direction bits packet id (by_rule it listed bytes other found d) =
-    inl (omega (arith, size_after-below packet (ipv6-of (stack_of listed.rule) direction packet d.matching.fields d.matching.payload_from d.matching.is_packet)))
+    inl (omega (
+      arith,
+      size_after-below packet
+          (ipv6-of (stack_of listed.rule) direction packet d.matching.fields d.matching.payload_from
+          d.matching.is_packet),
+    ))
 
-pub bound-read : (edition : EditionData) (iids : Iids) (direction : Direction) (bits : List Bool) (read : UnpackedData) → (length bits < 8) ⊎ IsSound edition → HasOptionsUnder edition direction read.rule_id → unpacked edition iids direction bits ≡ Ok read → (length read.packet ≤ 65575) ⊎ (8 * length read.packet ≤ length bits)
-bound-read edition iids direction bits read is options e = decoded-length edition iids direction bits read.packet read.rule_id (says-read edition iids direction bits read is options e)
+pub bound-read : (edition : EditionData) (iids : Iids) (direction : Direction) (bits : List Bool)
+    (read : UnpackedData) → (length bits < 8) ⊎ IsSound edition
+    → HasOptionsUnder edition direction read.rule_id
+    → unpacked edition iids direction bits ≡ Ok read → (length read.packet ≤ 65575)
+    ⊎ (8 * length read.packet ≤ length bits)
+bound-read edition iids direction bits read is options e =
+    decoded-length edition iids direction bits read.packet read.rule_id
+    (says-read edition iids direction bits read is options e)
 
 -- what holds at all holds of whatever was read
 pub IfOk-all : {X Y : Type 0} (r : Result X Y) (P : Type 0) → P → IfOk r (λ _. P)
@@ -82,10 +119,20 @@ IfOk-all (Ok x) P p = p
 IfOk-all (Err y) P p = tt
 
 -- the same of what was read
-pub says-result : (edition : EditionData) (iids : Iids) (direction : Direction) (bits : List Bool) (r : Result UnpackedData UnpackFault) → (length bits < 8) ⊎ IsSound edition → IfOk r (λ read. HasOptionsUnder edition direction read.rule_id) → IfOk r (λ read. unpacked edition iids direction bits ≡ Ok read) → IfOk r (λ read. Decodes edition iids direction bits read.packet read.rule_id)
-says-result edition iids direction bits (Ok read) is options e = says-read edition iids direction bits read is options e
+pub says-result : (edition : EditionData) (iids : Iids) (direction : Direction) (bits : List Bool)
+    (r : Result UnpackedData UnpackFault) → (length bits < 8) ⊎ IsSound edition
+    → IfOk r (λ read. HasOptionsUnder edition direction read.rule_id)
+    → IfOk r (λ read. unpacked edition iids direction bits ≡ Ok read)
+    → IfOk r (λ read. Decodes edition iids direction bits read.packet read.rule_id)
+says-result edition iids direction bits (Ok read) is options e =
+    says-read edition iids direction bits read is options e
 says-result edition iids direction bits (Err fault) is options e = tt
 
-pub bound-result : (edition : EditionData) (iids : Iids) (direction : Direction) (bits : List Bool) (r : Result UnpackedData UnpackFault) → (length bits < 8) ⊎ IsSound edition → IfOk r (λ read. HasOptionsUnder edition direction read.rule_id) → IfOk r (λ read. unpacked edition iids direction bits ≡ Ok read) → IfOk r (λ read. (length read.packet ≤ 65575) ⊎ (8 * length read.packet ≤ length bits))
-bound-result edition iids direction bits (Ok read) is options e = bound-read edition iids direction bits read is options e
+pub bound-result : (edition : EditionData) (iids : Iids) (direction : Direction) (bits : List Bool)
+    (r : Result UnpackedData UnpackFault) → (length bits < 8) ⊎ IsSound edition
+    → IfOk r (λ read. HasOptionsUnder edition direction read.rule_id)
+    → IfOk r (λ read. unpacked edition iids direction bits ≡ Ok read)
+    → IfOk r (λ read. (length read.packet ≤ 65575) ⊎ (8 * length read.packet ≤ length bits))
+bound-result edition iids direction bits (Ok read) is options e =
+    bound-read edition iids direction bits read is options e
 bound-result edition iids direction bits (Err fault) is options e = tt

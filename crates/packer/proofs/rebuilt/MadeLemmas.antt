@@ -1,5 +1,6 @@
 -- The packet that is made of restored fields and a payload.
-use Rattle.std.specs.Prelude.{ℕ, ◌≡◌, ◌-◌, ◌≤◌, Bool, true, false, ◌&&◌, if◌then◌else◌, List, [], length, drop, Some, None, Contains, unwrap_or}
+use Rattle.std.specs.Prelude.{ℕ, ◌≡◌, ◌-◌, ◌≤◌, Bool, true, false, ◌&&◌, if◌then◌else◌, List, []}
+use Rattle.std.specs.Prelude.{length, drop, Some, None, Contains, unwrap_or}
 use Rattle.std.proofs.Common.{arith, ap, refl, sym, ◌∙◌, subst, inl, inr}
 use Rattle.std.proofs.lemmas.Bool.{cases_Bool, and_parts, and_from, true≢false, false_from_ne_true}
 use Rattle.std.proofs.lemmas.List.{length-drop}
@@ -27,16 +28,24 @@ use Rattle.ip_udp_fields.specs.Checksum.{checksum_of}
 use Rattle.ip_udp_fields.specs.Join.{value_in, value_refusals}
 use Rattle.ip_udp_fields.proofs.RefusalLemmas.{header_size-is_packet}
 use Rattle.packer.specs.Schc.{is_computed_checksum}
-use Rattle.packer.specs.Unpacking.{filled_value, size_after, filled_headers, with_checksum, headers_and_payload, packet_of, reads}
+use Rattle.packer.specs.Unpacking.{filled_value, size_after, filled_headers, with_checksum}
+use Rattle.packer.specs.Unpacking.{headers_and_payload, packet_of, reads}
 use Rattle.packer.specs.Rebuilding.{AreRestored}
 use Rattle.packer.proofs.rebuilt.PlainLemmas.{packet_of-plain}
-use Rattle.packer.proofs.CoverLemmas.{Contains-map, passes_some, some_passes, same_entry, value_of-value_in, Covers}
-use Rattle.packer.proofs.rebuilt.JoinedLemmas.{listed, AreFound, AreWide, found-listed, value_refusals-same, joined-listed, joined-packet, joined-rest, AreBytes-joined}
-use Rattle.packer.proofs.rebuilt.ChecksumLemmas.{summed, summed_wide, with_checksum-listed, checksum-with_checksum}
-use Rattle.packer.proofs.rebuilt.RestoredHeadersLemmas.{header_values, headers-value, headers-found, headers-wide, computes-stack}
+use Rattle.packer.proofs.CoverLemmas.{Contains-map, passes_some, some_passes, same_entry}
+use Rattle.packer.proofs.CoverLemmas.{value_of-value_in, Covers}
+use Rattle.packer.proofs.rebuilt.JoinedLemmas.{listed, AreFound, AreWide, found-listed}
+use Rattle.packer.proofs.rebuilt.JoinedLemmas.{value_refusals-same, joined-listed, joined-packet}
+use Rattle.packer.proofs.rebuilt.JoinedLemmas.{joined-rest, AreBytes-joined}
+use Rattle.packer.proofs.rebuilt.ChecksumLemmas.{summed, summed_wide, with_checksum-listed}
+use Rattle.packer.proofs.rebuilt.ChecksumLemmas.{checksum-with_checksum}
+use Rattle.packer.proofs.rebuilt.RestoredHeadersLemmas.{header_values, headers-value, headers-found}
+use Rattle.packer.proofs.rebuilt.RestoredHeadersLemmas.{headers-wide, computes-stack}
 
 -- what stands in the bits can be made a packet
-pub AreRestored-from_Stands : (rule : RuleData) (iids : Iids) (direction : Direction) (fields : List FieldValue) (bits rest : List Bool) → reads rule direction ≡ true → Stands rule iids direction fields bits rest → AreRestored rule direction fields
+pub AreRestored-from_Stands : (rule : RuleData) (iids : Iids) (direction : Direction)
+    (fields : List FieldValue) (bits rest : List Bool) → reads rule direction ≡ true
+    → Stands rule iids direction fields bits rest → AreRestored rule direction fields
 AreRestored-from_Stands rule iids direction fields bits rest r stands =
     record {
       reading = r;
@@ -46,10 +55,14 @@ AreRestored-from_Stands rule iids direction fields bits rest r stands =
       stands = stands;
       widths = λ e among.
           let own : Contains fields (restored_field iids fields e) =
-          subst (λ (all : List FieldValue). Contains all (restored_field iids fields e)) (sym stands.restored) (Contains-map (restored_field iids fields) (covered rule direction) e among)
+          subst (λ (all : List FieldValue). Contains all (restored_field iids fields e))
+          (sym stands.restored)
+          (Contains-map (restored_field iids fields) (covered rule direction) e among)
           in
           let g = value_of-there fields (restored_field iids fields e) own in
-          subst (WidthHolds e.name) (sym g.3) (subst (λ (at : FieldAt). WidthHolds at.name g.0.value) g.2 (stands.sized.width_holds g.0 g.1));
+          subst (WidthHolds e.name) (sym g.3)
+          (subst (λ (at : FieldAt). WidthHolds at.name g.0.value) g.2
+          (stands.sized.width_holds g.0 g.1));
     }
 
 -- the values, with the checksum that is computed
@@ -57,7 +70,8 @@ abbrev pub final : Bool → ℕ → (FieldName → List Bool) → FieldName → 
 final computes checksum values name = if computes then summed checksum values name else values name
 
 -- a packet with these values and this payload
-pub record HasValues (of : Stack) (direction : Direction) (values : FieldName → List Bool) (payload packet : List ℕ) : Type 0 where
+pub record HasValues (of : Stack) (direction : Direction) (values : FieldName → List Bool)
+    (payload packet : List ℕ) : Type 0 where
   pub is_packet : FieldsOf of direction packet (listed of direction values) (header_size of)
   pub its_payload : drop (header_size of) packet ≡ payload
   pub bytes : AreBytes packet
@@ -66,60 +80,112 @@ abbrev pub summed_if : Bool → List ℕ → List ℕ
 summed_if computes packet = if computes then with_checksum packet else packet
 
 -- the checksum isn't asked of
-value_refusals_summed : (direction : Direction) (checksum size : ℕ) (values : FieldName → List Bool) → value_refusals stack.IpUdp (listed stack.IpUdp direction values) size ≡ value_refusals stack.IpUdp (listed stack.IpUdp direction (summed checksum values)) size
+value_refusals_summed : (direction : Direction) (checksum size : ℕ) (values : FieldName → List Bool)
+    → value_refusals stack.IpUdp (listed stack.IpUdp direction values) size ≡ value_refusals
+    stack.IpUdp (listed stack.IpUdp direction (summed checksum values)) size
 value_refusals_summed Up checksum size values = refl
 value_refusals_summed Down checksum size values = refl
 
 -- the checksum made anew in a packet with UDP
-made_summed : (direction : Direction) (values : FieldName → List Bool) (payload : List ℕ) → AreWide stack.IpUdp values → first_held (value_refusals stack.IpUdp (listed stack.IpUdp direction values) (length payload)) ≡ None → AreBytes payload → HasValues stack.IpUdp direction values payload (headers_and_payload stack.IpUdp direction (listed stack.IpUdp direction values) payload) → HasValues stack.IpUdp direction (summed (checksum_of (with_checksum (headers_and_payload stack.IpUdp direction (listed stack.IpUdp direction values) payload))) values) payload (with_checksum (headers_and_payload stack.IpUdp direction (listed stack.IpUdp direction values) payload))
+made_summed : (direction : Direction) (values : FieldName → List Bool) (payload : List ℕ)
+    → AreWide stack.IpUdp values
+    → first_held
+    (value_refusals stack.IpUdp (listed stack.IpUdp direction values) (length payload)) ≡ None
+    → AreBytes payload
+    → HasValues stack.IpUdp direction values payload
+    (headers_and_payload stack.IpUdp direction (listed stack.IpUdp direction values) payload)
+    → HasValues stack.IpUdp direction
+    (summed (checksum_of
+    (with_checksum
+    (headers_and_payload stack.IpUdp direction (listed stack.IpUdp direction values) payload)))
+    values) payload
+    (with_checksum
+    (headers_and_payload stack.IpUdp direction (listed stack.IpUdp direction values) payload))
 made_summed direction values payload w right b h =
-    let packet : List ℕ = headers_and_payload stack.IpUdp direction (listed stack.IpUdp direction values) payload in
+    let packet : List ℕ =
+    headers_and_payload stack.IpUdp direction (listed stack.IpUdp direction values) payload in
     let checksum : ℕ = checksum_of packet in
     let new : FieldName → List Bool = summed checksum values in
     let wide : AreWide stack.IpUdp new = summed_wide checksum values w in
-    let same : with_checksum packet ≡ headers_and_payload stack.IpUdp direction (listed stack.IpUdp direction new) payload = with_checksum-listed direction values payload w b h.its_payload in
-    let own : checksum_of (with_checksum packet) ≡ checksum = checksum-with_checksum packet (header_size-is_packet stack.IpUdp packet h.is_packet.is_packet) in
-    let new_right : first_held (value_refusals stack.IpUdp (listed stack.IpUdp direction new) (length payload)) ≡ None =
+    let same : with_checksum packet ≡ headers_and_payload stack.IpUdp direction
+    (listed stack.IpUdp direction new) payload =
+    with_checksum-listed direction values payload w b h.its_payload in
+    let own : checksum_of (with_checksum packet) ≡ checksum =
+    checksum-with_checksum packet
+    (header_size-is_packet stack.IpUdp packet h.is_packet.is_packet) in
+    let new_right : first_held
+    (value_refusals stack.IpUdp (listed stack.IpUdp direction new) (length payload)) ≡ None =
     ap first_held (sym (value_refusals_summed direction checksum (length payload) values)) ∙ right
     in
-    let made : HasValues stack.IpUdp direction new payload (headers_and_payload stack.IpUdp direction (listed stack.IpUdp direction new) payload) =
+    let made : HasValues stack.IpUdp direction new payload
+    (headers_and_payload stack.IpUdp direction (listed stack.IpUdp direction new) payload) =
     record {
-      is_packet = joined-packet stack.IpUdp direction new (listed stack.IpUdp direction new) payload tt (found-listed stack.IpUdp direction new tt) wide new_right;
-      its_payload = joined-rest stack.IpUdp direction new (listed stack.IpUdp direction new) payload tt (found-listed stack.IpUdp direction new tt) wide new_right;
+      is_packet =
+          joined-packet stack.IpUdp direction new (listed stack.IpUdp direction new) payload tt
+          (found-listed stack.IpUdp direction new tt) wide new_right;
+      its_payload =
+          joined-rest stack.IpUdp direction new (listed stack.IpUdp direction new) payload tt
+          (found-listed stack.IpUdp direction new tt) wide new_right;
       bytes = AreBytes-joined stack.IpUdp direction (listed stack.IpUdp direction new) payload b;
     }
     in
-    subst (λ (c : ℕ). HasValues stack.IpUdp direction (summed c values) payload (with_checksum packet)) (sym own)
+    subst (λ (c : ℕ). HasValues stack.IpUdp direction (summed c values) payload
+    (with_checksum packet)) (sym own)
     (subst (HasValues stack.IpUdp direction new payload) (sym same) made)
 
-made_plain : (of : Stack) (direction : Direction) (values : FieldName → List Bool) (payload : List ℕ) → IsWithoutCoap of → AreWide of values → first_held (value_refusals of (listed of direction values) (length payload)) ≡ None → AreBytes payload → HasValues of direction values payload (headers_and_payload of direction (listed of direction values) payload)
+made_plain : (of : Stack) (direction : Direction) (values : FieldName → List Bool)
+    (payload : List ℕ) → IsWithoutCoap of → AreWide of values
+    → first_held (value_refusals of (listed of direction values) (length payload)) ≡ None
+    → AreBytes payload
+    → HasValues of direction values payload
+    (headers_and_payload of direction (listed of direction values) payload)
 made_plain of direction values payload h w right b =
     record {
-      is_packet = joined-packet of direction values (listed of direction values) payload h (found-listed of direction values h) w right;
-      its_payload = joined-rest of direction values (listed of direction values) payload h (found-listed of direction values h) w right;
+      is_packet =
+          joined-packet of direction values (listed of direction values) payload h
+          (found-listed of direction values h) w right;
+      its_payload =
+          joined-rest of direction values (listed of direction values) payload h
+          (found-listed of direction values h) w right;
       bytes = AreBytes-joined of direction (listed of direction values) payload b;
     }
 
-pub made_values : (of : Stack) (direction : Direction) (computes : Bool) (values : FieldName → List Bool) (payload : List ℕ) → IsWithoutCoap of → (computes ≡ true → of ≡ stack.IpUdp) → AreWide of values → first_held (value_refusals of (listed of direction values) (length payload)) ≡ None → AreBytes payload → HasValues of direction (final computes (checksum_of (summed_if computes (headers_and_payload of direction (listed of direction values) payload))) values) payload (summed_if computes (headers_and_payload of direction (listed of direction values) payload))
-made_values of direction false values payload h s w right b = made_plain of direction values payload h w right b
-made_values stack.Ip direction true values payload h s w right b = let wrong : stack.Ip ≡ stack.IpUdp = s refl in absurd (cc)
+pub made_values : (of : Stack) (direction : Direction) (computes : Bool)
+    (values : FieldName → List Bool) (payload : List ℕ) → IsWithoutCoap of
+    → (computes ≡ true → of ≡ stack.IpUdp) → AreWide of values
+    → first_held (value_refusals of (listed of direction values) (length payload)) ≡ None
+    → AreBytes payload
+    → HasValues of direction
+    (final computes
+    (checksum_of
+    (summed_if computes (headers_and_payload of direction (listed of direction values) payload)))
+    values) payload
+    (summed_if computes (headers_and_payload of direction (listed of direction values) payload))
+made_values of direction false values payload h s w right b =
+    made_plain of direction values payload h w right b
+made_values stack.Ip direction true values payload h s w right b =
+    let wrong : stack.Ip ≡ stack.IpUdp = s refl in absurd (cc)
 made_values stack.IpUdp direction true values payload h s w right b =
-    made_summed direction values payload w right b (made_plain stack.IpUdp direction values payload tt w right b)
+    made_summed direction values payload w right b
+    (made_plain stack.IpUdp direction values payload tt w right b)
 made_values stack.IpUdpCoap direction true values payload h s w right b = absurd h
 
 -- what stands in the packet for an entry
 abbrev pub made_value : ℕ → ℕ → EntryData → List Bool → List Bool
-made_value checksum size e value = if is_computed_checksum e then number_bits 16 checksum else filled_value size e value
+made_value checksum size e value =
+    if is_computed_checksum e then number_bits 16 checksum else filled_value size e value
 
 -- the packet is made of the fields and the payload
-pub record IsMade (rule : RuleData) (direction : Direction) (fields : List FieldValue) (payload packet : List ℕ) : Type 0 where
+pub record IsMade (rule : RuleData) (direction : Direction) (fields : List FieldValue)
+    (payload packet : List ℕ) : Type 0 where
   pub its_fields : List FieldValue
   pub is_packet : FieldsOf (stack_of rule) direction packet its_fields (header_size (stack_of rule))
   pub its_payload : drop (header_size (stack_of rule)) packet ≡ payload
   pub bytes : AreBytes packet
   pub values :
       (e : EntryData) → Contains (covered rule direction) e →
-      value_of its_fields (field_of e) ≡ made_value (checksum_of packet) (length packet - 40) e (value_of fields (field_of e))
+      value_of its_fields (field_of e) ≡ made_value (checksum_of packet) (length packet - 40) e
+      (value_of fields (field_of e))
 
 pub and_false : (a : Bool) → (a && false) ≡ false
 and_false true = refl
@@ -130,7 +196,9 @@ and_true true = refl
 and_true false = refl
 
 -- the checksum is computed where its entry computes it
-pub checksum-choice : (rule : RuleData) (direction : Direction) (e : EntryData) → Covers rule direction → Contains (covered rule direction) e → (computes_checksum rule direction && same_name e.name UdpChecksum) ≡ is_computed_checksum e
+pub checksum-choice : (rule : RuleData) (direction : Direction) (e : EntryData)
+    → Covers rule direction → Contains (covered rule direction) e
+    → (computes_checksum rule direction && same_name e.name UdpChecksum) ≡ is_computed_checksum e
 checksum-choice rule direction e covers among =
     elim (cases_Bool (same_name e.name UdpChecksum)) [
       | inl t ↦
@@ -138,17 +206,25 @@ checksum-choice rule direction e covers among =
           let choice : computes_checksum rule direction ≡ is_compute e.action =
           elim (cases_Bool (is_compute e.action)) [
             | inl c ↦
-                some_passes (λ d. same_name d.name UdpChecksum && is_compute d.action) (covered rule direction) e among (and_from (same_name e.name UdpChecksum) (is_compute e.action) t c) ∙ sym c
+                some_passes (λ d. same_name d.name UdpChecksum && is_compute d.action)
+                (covered rule direction) e among
+                (and_from (same_name e.name UdpChecksum) (is_compute e.action) t c) ∙ sym c
             | inr c ↦
                 false_from_ne_true (computes_checksum rule direction)
                 (λ computes.
-                let d = passes_some (λ d. same_name d.name UdpChecksum && is_compute d.action) (covered rule direction) computes in
-                let parts = and_parts (same_name d.0.name UdpChecksum) (is_compute d.0.action) d.2 in
+                let d = passes_some (λ d. same_name d.name UdpChecksum && is_compute d.action)
+                (covered rule direction) computes in
+                let parts =
+                and_parts (same_name d.0.name UdpChecksum) (is_compute d.0.action) d.2 in
                 let same : field_of d.0 ≡ field_of e =
-                (covers.each_entry d.0 d.1).1 ∙ ap at_name (same_name-true d.0.name UdpChecksum parts.0 ∙ sym name) ∙ sym (covers.each_entry e among).1
+                (covers.each_entry d.0 d.1).1
+                ∙ ap at_name (same_name-true d.0.name UdpChecksum parts.0 ∙ sym name)
+                ∙ sym (covers.each_entry e among).1
                 in
-                let one : d.0 ≡ e = same_entry direction rule.entries d.0 e covers.apart d.1 among same in
-                true≢false (sym (subst (λ (x : EntryData). is_compute x.action ≡ true) one parts.1) ∙ c))
+                let one : d.0 ≡ e =
+                same_entry direction rule.entries d.0 e covers.apart d.1 among same in
+                true≢false
+                (sym (subst (λ (x : EntryData). is_compute x.action ≡ true) one parts.1) ∙ c))
                 ∙ sym c
           ]
           in
@@ -156,29 +232,43 @@ checksum-choice rule direction e covers among =
       | inr f ↦ rw f (and_false (computes_checksum rule direction))
     ]
 
-pub chosen : (a b : Bool) (x y : List Bool) → (if a then (if b then x else y) else y) ≡ (if a && b then x else y)
+pub chosen : (a b : Bool) (x y : List Bool)
+    → (if a then (if b then x else y) else y) ≡ (if a && b then x else y)
 chosen true b x y = refl
 chosen false b x y = refl
 
-pub size_of_payload : (of : Stack) (size all : ℕ) → IsWithoutCoap of → header_size of ≤ all → size ≡ all - header_size of → size_after of size ≡ all - 40
+pub size_of_payload : (of : Stack) (size all : ℕ) → IsWithoutCoap of → header_size of ≤ all
+    → size ≡ all - header_size of → size_after of size ≡ all - 40
 size_of_payload stack.Ip size all h l e = e
 size_of_payload stack.IpUdp size all h l e = omega (arith, e, l)
 size_of_payload stack.IpUdpCoap size all h l e = absurd h
 
 -- the value of a listed name
-pub listed_value : (of : Stack) (direction : Direction) (values : FieldName → List Bool) (name : FieldName) → IsWithoutCoap of → Contains (fields_of_stack of) name → value_of (listed of direction values) (at_name name) ≡ values name
+pub listed_value : (of : Stack) (direction : Direction) (values : FieldName → List Bool)
+    (name : FieldName) → IsWithoutCoap of → Contains (fields_of_stack of) name
+    → value_of (listed of direction values) (at_name name) ≡ values name
 listed_value of direction values name h among =
     value_of-value_in (listed of direction values) name
-    ∙ ap (λ o. unwrap_or o []) (all_at (λ n. value_in (listed of direction values) n ≡ Some (values n)) (fields_of_stack of) (found-listed of direction values h) name among)
+    ∙ ap (λ o. unwrap_or o [])
+    (all_at (λ n. value_in (listed of direction values) n ≡ Some (values n)) (fields_of_stack of)
+    (found-listed of direction values h) name among)
 
-IsMade-from_values : (rule : RuleData) (direction : Direction) (fields : List FieldValue) (payload packet : List ℕ) → Covers rule direction → HasValues (stack_of rule) direction (final (computes_checksum rule direction) (checksum_of packet) (header_values rule direction fields (length payload))) payload packet → IsMade rule direction fields payload packet
+IsMade-from_values : (rule : RuleData) (direction : Direction) (fields : List FieldValue)
+    (payload packet : List ℕ) → Covers rule direction
+    → HasValues (stack_of rule) direction
+    (final (computes_checksum rule direction) (checksum_of packet)
+    (header_values rule direction fields (length payload))) payload packet
+    → IsMade rule direction fields payload packet
 IsMade-from_values rule direction fields payload packet covers h =
     let of : Stack = stack_of rule in
     let values : FieldName → List Bool = header_values rule direction fields (length payload) in
-    let all : FieldName → List Bool = final (computes_checksum rule direction) (checksum_of packet) values in
+    let all : FieldName → List Bool =
+    final (computes_checksum rule direction) (checksum_of packet) values in
     let size : size_after of (length payload) ≡ length packet - 40 =
-    size_of_payload of (length payload) (length packet) covers.without (header_size-is_packet of packet h.is_packet.is_packet)
-    (ap (λ (bytes : List ℕ). length bytes) (sym h.its_payload) ∙ length-drop (header_size of) packet)
+    size_of_payload of (length payload) (length packet) covers.without
+    (header_size-is_packet of packet h.is_packet.is_packet)
+    (ap (λ (bytes : List ℕ). length bytes) (sym h.its_payload)
+    ∙ length-drop (header_size of) packet)
     in
     record {
       its_fields = listed of direction all;
@@ -187,29 +277,49 @@ IsMade-from_values rule direction fields payload packet covers h =
       bytes = h.bytes;
       values = λ e among.
           let place = covers.each_entry e among in
-          let own : values e.name ≡ filled_value (length packet - 40) e (value_of fields (field_of e)) =
+          let own : values e.name ≡ filled_value (length packet - 40) e
+          (value_of fields (field_of e)) =
           ap (value_of (filled_headers rule direction fields (length payload))) (sym place.1)
           ∙ headers-value rule direction fields (length payload) e covers among
           ∙ ap (λ n. filled_value n e (value_of fields (field_of e))) size
           in
           ap (value_of (listed of direction all)) place.1
           ∙ listed_value of direction all e.name covers.without place.0
-          ∙ chosen (computes_checksum rule direction) (same_name e.name UdpChecksum) (number_bits 16 (checksum_of packet)) (values e.name)
-          ∙ ap (λ b. if b then number_bits 16 (checksum_of packet) else values e.name) (checksum-choice rule direction e covers among)
-          ∙ ap (λ (bits : List Bool). if is_computed_checksum e then number_bits 16 (checksum_of packet) else bits) own;
+          ∙ chosen (computes_checksum rule direction) (same_name e.name UdpChecksum)
+          (number_bits 16 (checksum_of packet)) (values e.name)
+          ∙ ap (λ b. if b then number_bits 16 (checksum_of packet) else values e.name)
+          (checksum-choice rule direction e covers among)
+          ∙ ap (λ (bits : List Bool). if is_computed_checksum e then number_bits 16
+          (checksum_of packet) else bits) own;
     }
 
 -- restored fields whose headers are right make a packet
-pub made-packet : (rule : RuleData) (direction : Direction) (fields : List FieldValue) (payload : List ℕ) → Covers rule direction → AreRestored rule direction fields → first_held (value_refusals (stack_of rule) (filled_headers rule direction fields (length payload)) (length payload)) ≡ None → AreBytes payload → IsMade rule direction fields payload (packet_of rule direction fields payload)
+pub made-packet : (rule : RuleData) (direction : Direction) (fields : List FieldValue)
+    (payload : List ℕ) → Covers rule direction → AreRestored rule direction fields
+    → first_held
+    (value_refusals (stack_of rule) (filled_headers rule direction fields (length payload))
+    (length payload)) ≡ None → AreBytes payload
+    → IsMade rule direction fields payload (packet_of rule direction fields payload)
 made-packet rule direction fields payload covers restored right b =
     let of : Stack = stack_of rule in
     let headers : List FieldValue = filled_headers rule direction fields (length payload) in
     let values : FieldName → List Bool = header_values rule direction fields (length payload) in
-    let found : AreFound of values headers = headers-found rule direction fields (length payload) covers in
-    let right_listed : first_held (value_refusals of (listed of direction values) (length payload)) ≡ None =
-    ap first_held (value_refusals-same of values (listed of direction values) headers (length payload) covers.without (found-listed of direction values covers.without) found) ∙ right
+    let found : AreFound of values headers =
+    headers-found rule direction fields (length payload) covers in
+    let right_listed : first_held
+    (value_refusals of (listed of direction values) (length payload)) ≡ None =
+    ap first_held
+    (value_refusals-same of values (listed of direction values) headers (length payload)
+    covers.without (found-listed of direction values covers.without) found) ∙ right
     in
-    let has = made_values of direction (computes_checksum rule direction) values payload covers.without (computes-stack rule direction covers) (headers-wide rule direction fields (length payload) covers restored) right_listed b in
+    let has =
+    made_values of direction (computes_checksum rule direction) values payload covers.without
+    (computes-stack rule direction covers)
+    (headers-wide rule direction fields (length payload) covers restored) right_listed b in
     subst (IsMade rule direction fields payload)
-    (ap (λ (packet : List ℕ). summed_if (computes_checksum rule direction) packet) (sym (joined-listed of direction values headers payload covers.without found)) ∙ sym (packet_of-plain rule direction fields payload covers.without))
-    (IsMade-from_values rule direction fields payload (summed_if (computes_checksum rule direction) (headers_and_payload of direction (listed of direction values) payload)) covers has)
+    (ap (λ (packet : List ℕ). summed_if (computes_checksum rule direction) packet)
+    (sym (joined-listed of direction values headers payload covers.without found))
+    ∙ sym (packet_of-plain rule direction fields payload covers.without))
+    (IsMade-from_values rule direction fields payload
+    (summed_if (computes_checksum rule direction)
+    (headers_and_payload of direction (listed of direction values) payload)) covers has)

@@ -9,19 +9,22 @@ use Rattle.rule_model.specs.Data.{RuleData}
 use Rattle.rule_model.specs.Cover.{covered, stack_of}
 use Rattle.ip_udp_fields.specs.Layout.{IsWithoutCoap}
 use Rattle.ip_udp_fields.specs.Join.{value_refusals}
-use Rattle.packer.specs.Unpacking.{body_of, fixed_headers, filled_headers, operator_fault, checksummed, headers_and_payload, packet_around, packet_of}
+use Rattle.packer.specs.Unpacking.{body_of, fixed_headers, filled_headers, operator_fault}
+use Rattle.packer.specs.Unpacking.{checksummed, headers_and_payload, packet_around, packet_of}
 use Rattle.packer.specs.Rebuilding.{message_tests, header_tests}
 
 pub without-of : (it of : Stack) → it ≡ of → (it ≡ stack.Ip) ⊎ (it ≡ stack.IpUdp) → IsWithoutCoap of
 without-of it of e (inl h) = subst IsWithoutCoap (sym h ∙ e) tt
 without-of it of e (inr h) = subst IsWithoutCoap (sym h ∙ e) tt
 
-pub body-plain : (of : Stack) (fields : List FieldValue) (payload : List ℕ) → IsWithoutCoap of → body_of of fields payload ≡ payload
+pub body-plain : (of : Stack) (fields : List FieldValue) (payload : List ℕ) → IsWithoutCoap of
+    → body_of of fields payload ≡ payload
 body-plain stack.Ip fields payload h = refl
 body-plain stack.IpUdp fields payload h = refl
 body-plain stack.IpUdpCoap fields payload h = absurd h
 
-pub faults-plain : (of : Stack) (fields : List FieldValue) → IsWithoutCoap of → message_tests of fields ≡ []
+pub faults-plain : (of : Stack) (fields : List FieldValue) → IsWithoutCoap of
+    → message_tests of fields ≡ []
 faults-plain stack.Ip fields h = refl
 faults-plain stack.IpUdp fields h = refl
 faults-plain stack.IpUdpCoap fields h = absurd h
@@ -37,13 +40,20 @@ fixed-without stack.Ip = tt
 fixed-without stack.IpUdp = tt
 fixed-without stack.IpUdpCoap = tt
 
-pub value_refusals-fixed : (of : Stack) (fields : List FieldValue) (size : ℕ) → value_refusals (fixed_headers of) fields size ≡ value_refusals of fields size
+pub value_refusals-fixed : (of : Stack) (fields : List FieldValue) (size : ℕ)
+    → value_refusals (fixed_headers of) fields size ≡ value_refusals of fields size
 value_refusals-fixed stack.Ip fields size = refl
 value_refusals-fixed stack.IpUdp fields size = refl
 value_refusals-fixed stack.IpUdpCoap fields size = refl
 
-pub packet_of-plain : (rule : RuleData) (direction : Direction) (fields : List FieldValue) (payload : List ℕ) → IsWithoutCoap (stack_of rule) → packet_of rule direction fields payload ≡ checksummed rule direction (headers_and_payload (stack_of rule) direction (filled_headers rule direction fields (length payload)) payload)
+pub packet_of-plain : (rule : RuleData) (direction : Direction) (fields : List FieldValue)
+    (payload : List ℕ) → IsWithoutCoap (stack_of rule)
+    → packet_of rule direction fields payload ≡ checksummed rule direction
+    (headers_and_payload (stack_of rule) direction
+    (filled_headers rule direction fields (length payload)) payload)
 unfolding packet_around
 packet_of-plain rule direction fields payload h =
     ap (packet_around rule direction fields) (body-plain (stack_of rule) fields payload h)
-    ∙ ap (λ of. checksummed rule direction (headers_and_payload of direction (filled_headers rule direction fields (length payload)) payload)) (fixed-plain (stack_of rule) h)
+    ∙ ap (λ of. checksummed rule direction
+    (headers_and_payload of direction (filled_headers rule direction fields (length payload))
+    payload)) (fixed-plain (stack_of rule) h)

@@ -1,9 +1,11 @@
 -- The packet of restored fields of which nothing is wrong, in each stack.
-use Rattle.std.specs.Prelude.{ℕ, ◌≡◌, ◌≢◌, ◌⊎◌, ◌+◌, nat_lt, List, [], ◌∷◌, ◌++◌, length, None, AllPairs}
+use Rattle.std.specs.Prelude.{ℕ, ◌≡◌, ◌≢◌, ◌⊎◌, ◌+◌, nat_lt, List, [], ◌∷◌, ◌++◌, length, None}
+use Rattle.std.specs.Prelude.{AllPairs}
 use Rattle.std.proofs.Common.{arith, refl, sym, ◌∙◌, subst, inl, inr}
 use Rattle.std.proofs.lemmas.Bool.{ltb-false}
 use Rattle.schc_bits.specs.Bits.{AreBytes}
-use Rattle.schc_ids.specs.declared.names.FieldName.TheVariants.{IpVersion, IpPayloadLength, IpNextHeader, UdpLength}
+use Rattle.schc_ids.specs.declared.names.FieldName.TheVariants.{IpVersion, IpPayloadLength}
+use Rattle.schc_ids.specs.declared.names.FieldName.TheVariants.{IpNextHeader, UdpLength}
 use Rattle.schc_ids.specs.declared.ends.Direction.{Direction}
 use Rattle.schc_ids.specs.declared.names.Stack.{Stack}
 use Rattle.schc_ids.specs.declared.names.Stack.TheVariants as stack
@@ -36,34 +38,67 @@ stack-cases stack.IpUdp = inl tt
 stack-cases stack.IpUdpCoap = inr refl
 
 -- the message isn't refused, where the packet isn't too long
-pub message-right : (fields headers : List FieldValue) (payload : List ℕ) → first_held (message_tests stack.IpUdpCoap fields) ≡ None → first_held (value_refusals stack.IpUdpCoap headers (length (body_of stack.IpUdpCoap fields payload))) ≡ None → join_refusal (message_fields fields) ≡ None
+pub message-right : (fields headers : List FieldValue) (payload : List ℕ)
+    → first_held (message_tests stack.IpUdpCoap fields) ≡ None
+    → first_held
+    (value_refusals stack.IpUdpCoap headers
+    (length (body_of stack.IpUdpCoap fields payload))) ≡ None
+    → join_refusal (message_fields fields) ≡ None
 message-right fields headers payload h right =
     let mine : List FieldValue = message_fields fields in
     let both : first_held (front_tests fields ++ message_refusals mine) ≡ None =
-    none_of (first_held (front_tests fields ++ message_refusals mine)) (sym (first_held-map wrong_field (front_tests fields ++ message_refusals mine)) ∙ h)
+    none_of (first_held (front_tests fields ++ message_refusals mine))
+    (sym (first_held-map wrong_field (front_tests fields ++ message_refusals mine)) ∙ h)
     in
     let n : ℕ = length (message_from mine payload) in
-    let few = append-none (other_number headers IpVersion 6 ∷ other_number headers IpNextHeader 17 ∷ too_many (8 + n) ∷ []) (other_number headers IpPayloadLength (8 + n) ∷ other_number headers UdpLength (8 + n) ∷ []) right in
-    let last = append-none (other_number headers IpVersion 6 ∷ other_number headers IpNextHeader 17 ∷ []) (too_many (8 + n) ∷ []) few.0 in
+    let few =
+    append-none
+    (other_number headers IpVersion 6 ∷ other_number headers IpNextHeader 17 ∷ too_many
+    (8 + n) ∷ [])
+    (other_number headers IpPayloadLength (8 + n) ∷ other_number headers UdpLength (8 + n) ∷ [])
+    right in
+    let last =
+    append-none (other_number headers IpVersion 6 ∷ other_number headers IpNextHeader 17 ∷ [])
+    (too_many (8 + n) ∷ []) few.0 in
     let size = held-first (nat_lt 65535 (8 + n)) _ [] last.1 in
-    elim (size-refusal mine payload (append-none (front_tests fields) (message_refusals mine) both).1) [
+    elim (size-refusal mine payload
+    (append-none (front_tests fields) (message_refusals mine) both).1) [
       | inl joins ↦ joins
       | inr long ↦ absurd (omega (arith, long, ltb-false 65535 (8 + n) size.0))
     ]
 
-pub put-packet : (rule : RuleData) (direction : Direction) (fields : List FieldValue) (payload : List ℕ) → IsAdmitted rule → AreRestored rule direction fields → IsSameSet rule direction fields → AllPairs (λ f g. f.at ≢ g.at) fields → first_held (message_tests (stack_of rule) fields) ≡ None → first_held (value_refusals (stack_of rule) (filled_headers rule direction fields (length (body_of (stack_of rule) fields payload))) (length (body_of (stack_of rule) fields payload))) ≡ None → AreBytes payload → IsPut rule direction fields payload (packet_of rule direction fields payload)
+pub put-packet : (rule : RuleData) (direction : Direction) (fields : List FieldValue)
+    (payload : List ℕ) → IsAdmitted rule → AreRestored rule direction fields
+    → IsSameSet rule direction fields → AllPairs (λ f g. f.at ≢ g.at) fields
+    → first_held (message_tests (stack_of rule) fields) ≡ None
+    → first_held
+    (value_refusals (stack_of rule)
+    (filled_headers rule direction fields (length (body_of (stack_of rule) fields payload)))
+    (length (body_of (stack_of rule) fields payload))) ≡ None → AreBytes payload
+    → IsPut rule direction fields payload (packet_of rule direction fields payload)
 put-packet rule direction fields payload admitted restored same once message right bytes =
     elim (stack-cases (stack_of rule)) [
       | inl without ↦
-          let covers : Covers rule direction = Covers-from_reads rule direction admitted without restored.reading in
+          let covers : Covers rule direction =
+          Covers-from_reads rule direction admitted without restored.reading in
           plain-put rule direction fields payload (packet_of rule direction fields payload) covers
           (made-packet rule direction fields payload covers restored
-          (subst (λ (body : List ℕ). first_held (value_refusals (stack_of rule) (filled_headers rule direction fields (length body)) (length body)) ≡ None) (body-plain (stack_of rule) fields payload without) right)
+          (subst (λ (body : List ℕ). first_held
+          (value_refusals (stack_of rule) (filled_headers rule direction fields (length body))
+          (length body)) ≡ None) (body-plain (stack_of rule) fields payload without) right)
           bytes)
       | inr s ↦
           (coap-put rule direction fields payload s admitted restored same once
-          (message-right fields (filled_headers rule direction fields (length (body_of stack.IpUdpCoap fields payload))) payload
+          (message-right fields
+          (filled_headers rule direction fields
+          (length (body_of stack.IpUdpCoap fields payload))) payload
           (subst (λ of. first_held (message_tests of fields) ≡ None) s message)
-          (subst (λ of. first_held (value_refusals of (filled_headers rule direction fields (length (body_of of fields payload))) (length (body_of of fields payload))) ≡ None) s right)) bytes
-          (subst (λ of. first_held (value_refusals (stack_of rule) (filled_headers rule direction fields (length (body_of of fields payload))) (length (body_of of fields payload))) ≡ None) s right)).put
+          (subst (λ of. first_held
+          (value_refusals of
+          (filled_headers rule direction fields (length (body_of of fields payload)))
+          (length (body_of of fields payload))) ≡ None) s right)) bytes
+          (subst (λ of. first_held
+          (value_refusals (stack_of rule)
+          (filled_headers rule direction fields (length (body_of of fields payload)))
+          (length (body_of of fields payload))) ≡ None) s right)).put
     ]

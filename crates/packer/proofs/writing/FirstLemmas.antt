@@ -1,7 +1,10 @@
 -- Of several candidates the one that comes first: in whichever order they are compared.
-use Rattle.std.specs.Prelude.{ℕ, ◌≡◌, ◌≢◌, ◌<◌, ◌≤◌, ◌==◌, ◌⊎◌, ◌&&◌, ◌||◌, true, false, nat_lt, nat_le, List, [], ◌∷◌, ◌++◌, Option, Some, None, Contains}
+use Rattle.std.specs.Prelude.{ℕ, ◌≡◌, ◌≢◌, ◌<◌, ◌≤◌, ◌==◌, ◌⊎◌, ◌&&◌, ◌||◌, true, false, nat_lt}
+use Rattle.std.specs.Prelude.{nat_le, List, [], ◌∷◌, ◌++◌, Option, Some, None, Contains}
 use Rattle.std.proofs.Common.{arith, ap, refl, sym, ◌∙◌, subst, inl, inr}
-use Rattle.std.proofs.lemmas.Bool.{cases_Bool, cases_lt, cases_eq, and_from, or_left, or_right, le-leb, le-ltb, lt-ltb, leb-true, eqb-true, eq-eqb, and_parts, true≢false}
+use Rattle.std.proofs.lemmas.Bool.{cases_Bool, cases_lt, cases_eq, and_from, or_left, or_right}
+use Rattle.std.proofs.lemmas.Bool.{le-leb, le-ltb, lt-ltb, leb-true, eqb-true, eq-eqb, and_parts}
+use Rattle.std.proofs.lemmas.Bool.{true≢false}
 use Rattle.std.proofs.lemmas.List.Elements.{Contains-append_left, Contains-append_right}
 use Rattle.rule_model.proofs.SizedLemmas.{Contains-first, Contains-rest}
 use Rattle.packer.specs.declared.choosing.Candidate.{Candidate}
@@ -13,13 +16,17 @@ abbrev pub ComesFirst : Candidate → Candidate → Type 0
 ComesFirst c d = (c.bits < d.bits) ⊎ ((c.bits ≡ d.bits) × (c.rule_id ≤ d.rule_id))
 
 pub preferred-from : (c d : Candidate) → ComesFirst c d → is_preferred c d ≡ true
-preferred-from c d (inl l) = or_left (nat_lt c.bits d.bits) ((c.bits == d.bits) && nat_le c.rule_id d.rule_id) (lt-ltb c.bits d.bits l)
+preferred-from c d (inl l) =
+    or_left (nat_lt c.bits d.bits) ((c.bits == d.bits) && nat_le c.rule_id d.rule_id)
+    (lt-ltb c.bits d.bits l)
 preferred-from c d (inr e) =
     or_right (nat_lt c.bits d.bits) ((c.bits == d.bits) && nat_le c.rule_id d.rule_id)
-    (and_from (c.bits == d.bits) (nat_le c.rule_id d.rule_id) (eq-eqb c.bits d.bits e.0) (le-leb c.rule_id d.rule_id e.1))
+    (and_from (c.bits == d.bits) (nat_le c.rule_id d.rule_id) (eq-eqb c.bits d.bits e.0)
+    (le-leb c.rule_id d.rule_id e.1))
 
 -- of two, one comes first
-pub first-either : (c d : Candidate) → ComesFirst c d ⊎ ((d.bits < c.bits) ⊎ ((d.bits ≡ c.bits) × (d.rule_id < c.rule_id)))
+pub first-either : (c d : Candidate) → ComesFirst c d
+    ⊎ ((d.bits < c.bits) ⊎ ((d.bits ≡ c.bits) × (d.rule_id < c.rule_id)))
 first-either c d =
     elim (cases_lt c.bits d.bits) [
       | inl l ↦ inl (inl l)
@@ -34,13 +41,15 @@ first-either c d =
           ]
     ]
 
-both_ways : (c d : Candidate) → ComesFirst c d → (d.bits < c.bits) ⊎ ((d.bits ≡ c.bits) × (d.rule_id < c.rule_id)) → ⊥
+both_ways : (c d : Candidate) → ComesFirst c d → (d.bits < c.bits)
+    ⊎ ((d.bits ≡ c.bits) × (d.rule_id < c.rule_id)) → ⊥
 both_ways c d (inl l) (inl k) = absurd (omega (arith, l, k))
 both_ways c d (inl l) (inr k) = absurd (omega (arith, l, k.0))
 both_ways c d (inr l) (inl k) = absurd (omega (arith, l.0, k))
 both_ways c d (inr l) (inr k) = absurd (omega (arith, l.1, k.1))
 
-weaker : (c d : Candidate) → (d.bits < c.bits) ⊎ ((d.bits ≡ c.bits) × (d.rule_id < c.rule_id)) → ComesFirst d c
+weaker : (c d : Candidate) → (d.bits < c.bits) ⊎ ((d.bits ≡ c.bits) × (d.rule_id < c.rule_id))
+    → ComesFirst d c
 weaker c d (inl l) = inl l
 weaker c d (inr l) = inr (l.0, omega (arith, l.1))
 
@@ -51,8 +60,11 @@ preferred-true c d t =
       | inr l ↦ inr (later c d l t)
     ]
   where
-    later : (c d : Candidate) → d.bits ≤ c.bits → is_preferred c d ≡ true → (c.bits ≡ d.bits) × (c.rule_id ≤ d.rule_id)
-    later c d l t = let no : nat_lt c.bits d.bits ≡ false = le-ltb c.bits d.bits l in let parts = and_parts (c.bits == d.bits) (nat_le c.rule_id d.rule_id) (rw no at t) in (eqb-true c.bits d.bits parts.0, leb-true c.rule_id d.rule_id parts.1)
+    later : (c d : Candidate) → d.bits ≤ c.bits → is_preferred c d ≡ true → (c.bits ≡ d.bits)
+        × (c.rule_id ≤ d.rule_id)
+    later c d l t = let no : nat_lt c.bits d.bits ≡ false = le-ltb c.bits d.bits l in let parts =
+        and_parts (c.bits == d.bits) (nat_le c.rule_id d.rule_id) (rw no at t) in
+        (eqb-true c.bits d.bits parts.0, leb-true c.rule_id d.rule_id parts.1)
 
 pub preferred-false : (c d : Candidate) → is_preferred c d ≡ false → ComesFirst d c
 preferred-false c d f =
@@ -78,19 +90,23 @@ first-one c d l k =
     let parts : (c.rule_id ≡ d.rule_id) × (c.bits ≡ d.bits) = same c d l k in
     ap (λ id. with id c.bits) parts.0 ∙ ap (with d.rule_id) parts.1
   where
-    same : (c d : Candidate) → ComesFirst c d → ComesFirst d c → (c.rule_id ≡ d.rule_id) × (c.bits ≡ d.bits)
+    same : (c d : Candidate) → ComesFirst c d → ComesFirst d c → (c.rule_id ≡ d.rule_id)
+        × (c.bits ≡ d.bits)
     same c d (inl l) (inl k) = absurd (omega (arith, l, k))
     same c d (inl l) (inr k) = absurd (omega (arith, l, k.0))
     same c d (inr l) (inl k) = absurd (omega (arith, l.0, k))
     same c d (inr l) (inr k) = (omega (arith, l.1, k.1), l.0)
 
-assoc_some : (a b c : Candidate) → smaller (smaller (Some a) (Some b)) (Some c) ≡ smaller (Some a) (smaller (Some b) (Some c))
+assoc_some : (a b c : Candidate)
+    → smaller (smaller (Some a) (Some b)) (Some c) ≡ smaller (Some a) (smaller (Some b) (Some c))
 assoc_some a b c =
     elim (cases_Bool (is_preferred a b)) [
       | inl ab ↦
           elim (cases_Bool (is_preferred b c)) [
             | inl bc ↦
-                let ac : is_preferred a c ≡ true = preferred-from a c (first-trans a b c (preferred-true a b ab) (preferred-true b c bc)) in
+                let ac : is_preferred a c ≡ true =
+                preferred-from a c
+                (first-trans a b c (preferred-true a b ab) (preferred-true b c bc)) in
                 rw (ab, bc, ac, ab) refl
             | inr bc ↦ rw (ab, bc) refl
           ]
@@ -103,10 +119,14 @@ assoc_some a b c =
           ]
     ]
   where
-    not_first : (a b c : Candidate) → is_preferred a b ≡ false → is_preferred b c ≡ false → is_preferred a c ≡ false
+    not_first : (a b c : Candidate) → is_preferred a b ≡ false → is_preferred b c ≡ false
+        → is_preferred a c ≡ false
     not_first a b c ab bc =
         elim (cases_Bool (is_preferred a c)) [
-          | inl t ↦ absurd (true≢false (sym (preferred-from a b (first-trans a c b (preferred-true a c t) (preferred-false b c bc))) ∙ ab))
+          | inl t ↦ absurd
+              (true≢false
+              (sym (preferred-from a b
+              (first-trans a c b (preferred-true a c t) (preferred-false b c bc))) ∙ ab))
           | inr f ↦ f
         ]
 
@@ -122,17 +142,21 @@ smaller-assoc (Some a) (Some b) None = smaller-none (smaller (Some a) (Some b))
 smaller-assoc (Some a) (Some b) (Some c) = assoc_some a b c
 
 -- the first of two lists
-pub smallest-append : (f : ℕ → Option Candidate) (these those : List ℕ) → smallest_of f (these ++ those) ≡ smaller (smallest_of f these) (smallest_of f those)
+pub smallest-append : (f : ℕ → Option Candidate) (these those : List ℕ)
+    → smallest_of f (these ++ those) ≡ smaller (smallest_of f these) (smallest_of f those)
 smallest-append f [] those = refl
 smallest-append f (id ∷ these) those =
-    ap (smaller (f id)) (smallest-append f these those) ∙ sym (smaller-assoc (f id) (smallest_of f these) (smallest_of f those))
+    ap (smaller (f id)) (smallest-append f these those)
+    ∙ sym (smaller-assoc (f id) (smallest_of f these) (smallest_of f those))
 
 -- it is one of them and comes before the others, or there is none
 abbrev pub IsSmallest : (ℕ → Option Candidate) → List ℕ → Option Candidate → Type 0
 IsSmallest f ids None = (id : ℕ) → Contains ids id → f id ≡ None
-IsSmallest f ids (Some c) = ((id : ℕ) × Contains ids id × (f id ≡ Some c)) × ((id : ℕ) (d : Candidate) → Contains ids id → f id ≡ Some d → ComesFirst c d)
+IsSmallest f ids (Some c) = ((id : ℕ) × Contains ids id × (f id ≡ Some c))
+    × ((id : ℕ) (d : Candidate) → Contains ids id → f id ≡ Some d → ComesFirst c d)
 
-first_of : (f : ℕ → Option Candidate) (id : ℕ) (ids : List ℕ) (a b : Option Candidate) → f id ≡ a → IsSmallest f ids b → IsSmallest f (id ∷ ids) (smaller a b)
+first_of : (f : ℕ → Option Candidate) (id : ℕ) (ids : List ℕ) (a b : Option Candidate) → f id ≡ a
+    → IsSmallest f ids b → IsSmallest f (id ∷ ids) (smaller a b)
 first_of f id ids None None e rest =
     λ x among. elim (Contains-parts id ids x among) [
       | inl same ↦ ap f (sym same) ∙ e
@@ -148,7 +172,8 @@ first_of f id ids None (Some c) e rest = (
 first_of f id ids (Some a) None e rest = (
   (id, Contains-first id ids, e),
   λ x d among is. elim (Contains-parts id ids x among) [
-    | inl same ↦ let both : Some a ≡ Some d = sym e ∙ ap f same ∙ is in subst (ComesFirst a) (cc) (first-itself a)
+    | inl same ↦ let both : Some a ≡ Some d = sym e ∙ ap f same ∙ is in
+        subst (ComesFirst a) (cc) (first-itself a)
     | inr later ↦ let both : None ≡ Some d = sym (rest x later) ∙ is in absurd (cc)
   ],
 )
@@ -158,7 +183,8 @@ first_of f id ids (Some a) (Some c) e rest =
           rw t (
             (id, Contains-first id ids, e),
             λ x d among is. elim (Contains-parts id ids x among) [
-              | inl same ↦ let both : Some a ≡ Some d = sym e ∙ ap f same ∙ is in subst (ComesFirst a) (cc) (first-itself a)
+              | inl same ↦ let both : Some a ≡ Some d = sym e ∙ ap f same ∙ is in
+                  subst (ComesFirst a) (cc) (first-itself a)
               | inr later ↦ first-trans a c d (preferred-true a c t) (rest.1 x d later is)
             ],
           )
@@ -166,7 +192,8 @@ first_of f id ids (Some a) (Some c) e rest =
           rw n (
             (rest.0.0, Contains-rest id ids rest.0.0 rest.0.1, rest.0.2),
             λ x d among is. elim (Contains-parts id ids x among) [
-              | inl same ↦ let both : Some a ≡ Some d = sym e ∙ ap f same ∙ is in subst (ComesFirst c) (cc) (preferred-false a c n)
+              | inl same ↦ let both : Some a ≡ Some d = sym e ∙ ap f same ∙ is in
+                  subst (ComesFirst c) (cc) (preferred-false a c n)
               | inr later ↦ rest.1 x d later is
             ],
           )
@@ -178,10 +205,13 @@ smallest-is f (id ∷ ids) = first_of f id ids (f id) (smallest_of f ids) refl (
 
 -- each of the first that is a candidate is among the second
 abbrev pub HasEach : (ℕ → Option Candidate) → List ℕ → List ℕ → Type 0
-HasEach f these those = (id : ℕ) (c : Candidate) → Contains these id → f id ≡ Some c → Contains those id
+HasEach f these those = (id : ℕ) (c : Candidate) → Contains these id → f id ≡ Some c
+    → Contains those id
 
 -- lists of the same candidates have one first
-pub smallest-one : (f : ℕ → Option Candidate) (these those : List ℕ) (a b : Option Candidate) → HasEach f these those → HasEach f those these → IsSmallest f these a → IsSmallest f those b → a ≡ b
+pub smallest-one : (f : ℕ → Option Candidate) (these those : List ℕ) (a b : Option Candidate)
+    → HasEach f these those → HasEach f those these → IsSmallest f these a → IsSmallest f those b
+    → a ≡ b
 smallest-one f these those None None there back h k = refl
 smallest-one f these those None (Some d) there back h k =
     let none = h k.0.0 (back k.0.0 d k.0.1 k.0.2) in
@@ -192,4 +222,5 @@ smallest-one f these those (Some c) None there back h k =
     let both : None ≡ Some c = sym none ∙ h.0.2 in
     absurd (cc)
 smallest-one f these those (Some c) (Some d) there back h k =
-    ap Some (first-one c d (h.1 k.0.0 d (back k.0.0 d k.0.1 k.0.2) k.0.2) (k.1 h.0.0 c (there h.0.0 c h.0.1 h.0.2) h.0.2))
+    ap Some (first-one c d (h.1 k.0.0 d (back k.0.0 d k.0.1 k.0.2) k.0.2)
+    (k.1 h.0.0 c (there h.0.0 c h.0.1 h.0.2) h.0.2))

@@ -1,5 +1,6 @@
 -- The RuleID of an SCHC packet.
-use Rattle.std.specs.Prelude.{ℕ, ◌≡◌, ◌<◌, ◌≤◌, ◌==◌, Bool, false, nat_lt, List, ◌++◌, length, Some, None}
+use Rattle.std.specs.Prelude.{ℕ, ◌≡◌, ◌<◌, ◌≤◌, ◌==◌, Bool, false, nat_lt, List, ◌++◌, length, Some}
+use Rattle.std.specs.Prelude.{None}
 use Rattle.std.proofs.Common.{arith, ap, refl, inl, inr}
 use Rattle.std.proofs.lemmas.Bool.{cases_Bool, or_parts, ltb-false}
 use Rattle.std.proofs.lemmas.List.{length-append}
@@ -13,18 +14,32 @@ use Rattle.rule_model.specs.Findings.{id_out_of_range, place_of, IsAdmitted}
 in_range : (rule : RuleData) → IsAdmitted rule → id_out_of_range rule ≡ false
 in_range rule admitted =
     elim (cases_Bool (id_out_of_range rule)) [
-      | inl t ↦ let there : place_of kind.IdOutOfRange rule ≡ Some 0 = rw t refl in let none : place_of kind.IdOutOfRange rule ≡ None = admitted kind.IdOutOfRange in absurd (cc)
+      | inl t ↦ let there : place_of kind.IdOutOfRange rule ≡ Some 0 = rw t refl in
+          let none : place_of kind.IdOutOfRange rule ≡ None = admitted kind.IdOutOfRange in
+          absurd (cc)
       | inr f ↦ f
     ]
 
 pub id-small : (rule : RuleData) → IsAdmitted rule → rule.id < 256
 id-small rule admitted =
-    omega (arith, ltb-false 223 rule.id (or_parts (rule.id == 0) (nat_lt 223 rule.id) (in_range rule admitted)).1)
+    omega (
+      arith,
+      ltb-false 223 rule.id
+          (or_parts (rule.id == 0) (nat_lt 223 rule.id) (in_range rule admitted)).1,
+    )
 
 -- bits that begin with a RuleID
-pub with_id : (front : List Bool) (id : ℕ) (bits : List Bool) → bits ≡ front ++ number_bits 8 id → 8 ≤ length bits
+pub with_id : (front : List Bool) (id : ℕ) (bits : List Bool) → bits ≡ front ++ number_bits 8 id
+    → 8 ≤ length bits
 with_id front id bits e =
-    omega (arith, ap (λ (bits : List Bool). length bits) e, length-append front (number_bits 8 id), length-number_bits 8 id)
+    omega (
+      arith,
+      ap (λ (bits : List Bool). length bits) e,
+      length-append front (number_bits 8 id),
+      length-number_bits 8 id,
+    )
 
-pub with_more : (bits more longer : List Bool) → longer ≡ bits ++ more → 8 ≤ length bits → 8 ≤ length longer
-with_more bits more longer e h = omega (arith, ap (λ (bits : List Bool). length bits) e, length-append bits more)
+pub with_more : (bits more longer : List Bool) → longer ≡ bits ++ more → 8 ≤ length bits
+    → 8 ≤ length longer
+with_more bits more longer e h =
+    omega (arith, ap (λ (bits : List Bool). length bits) e, length-append bits more)

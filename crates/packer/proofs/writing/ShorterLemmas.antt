@@ -6,10 +6,12 @@ use Rattle.std.proofs.lemmas.Bool.{cases_Bool}
 use Rattle.packer.specs.Packing.{SchcPacketData, candidate_of, is_preferred, shorter, smaller}
 
 -- the first is chosen, or the later one
-pub shorter-first : (f g : SchcPacketData) → is_preferred (candidate_of f) (candidate_of g) ≡ true → shorter (Some f) (Some g) ≡ Some f
+pub shorter-first : (f g : SchcPacketData) → is_preferred (candidate_of f) (candidate_of g) ≡ true
+    → shorter (Some f) (Some g) ≡ Some f
 shorter-first f g h = rw h refl
 
-pub shorter-later : (f g : SchcPacketData) → is_preferred (candidate_of f) (candidate_of g) ≡ false → shorter (Some f) (Some g) ≡ Some g
+pub shorter-later : (f g : SchcPacketData) → is_preferred (candidate_of f) (candidate_of g) ≡ false
+    → shorter (Some f) (Some g) ≡ Some g
 shorter-later f g h = rw h refl
 
 -- where neither is there, there is none
@@ -23,7 +25,9 @@ shorter-both (Some a) (Some b) e =
     ]
 
 -- the candidate of the SCHC packet is that of the candidates
-pub shorter-candidate : (a b : Option SchcPacketData) → option_map candidate_of (shorter a b) ≡ smaller (option_map candidate_of a) (option_map candidate_of b)
+pub shorter-candidate : (a b : Option SchcPacketData)
+    → option_map candidate_of (shorter a b) ≡ smaller (option_map candidate_of a)
+    (option_map candidate_of b)
 shorter-candidate None b = refl
 shorter-candidate (Some a) None = refl
 shorter-candidate (Some a) (Some b) =

@@ -5,4 +5,5 @@ use Rattle.coap_fields.proofs.join_conditions.gap_fault.Given as goal
 
 abbrev pub invariant-loop-field : goal.invariant-loop-field
 invariant-loop-field l =
-    first_held (gaps l.last.number l.last.place (drop l.field-index l.fields)) ≡ first_held (gaps 0 0 l.fields)
+    first_held (gaps l.last.number l.last.place (drop l.field-index l.fields)) ≡ first_held
+    (gaps 0 0 l.fields)

@@ -5,4 +5,5 @@ use Rattle.coap_fields.proofs.join_conditions.standing_fault.Given as goal
 
 abbrev pub invariant-loop-field : goal.invariant-loop-field
 invariant-loop-field l =
-    first_held (standing l.rank l.position (drop l.field-index l.fields)) ≡ first_held (standing 0 0 l.fields)
+    first_held (standing l.rank l.position (drop l.field-index l.fields)) ≡ first_held
+    (standing 0 0 l.fields)

@@ -11,11 +11,15 @@ returns-in-empty-clause-refused c = message_in-none c.args.message.now c.in-empt
 pub returns-in-len1-up-clause-ok : goal.returns-in-len1-up-clause-ok
 returns-in-len1-up-clause-ok c =
     IfOk-weaker c.push_from.result _ _
-    (λ from h. ap (behind c.args.fields.now.items) (message_in-first c.args.message.now _ c.in-len1-up.len_at_least (later_are c.args.message.now)) ∙ h)
+    (λ from h. ap (behind c.args.fields.now.items)
+    (message_in-first c.args.message.now _ c.in-len1-up.len_at_least
+    (later_are c.args.message.now)) ∙ h)
     c.push_from.ensures.ok
 
 pub returns-in-len1-up-clause-refused : goal.returns-in-len1-up-clause-refused
 returns-in-len1-up-clause-refused c =
     IfErr-weaker c.push_from.result _ _
-    (λ fault h. subst (IsRefusal fault) (sym (message_in-first c.args.message.now _ c.in-len1-up.len_at_least (later_are c.args.message.now))) h)
+    (λ fault h. subst (IsRefusal fault)
+    (sym (message_in-first c.args.message.now _ c.in-len1-up.len_at_least
+    (later_are c.args.message.now))) h)
     c.push_from.ensures.refused

@@ -13,14 +13,25 @@ two_bytes_in-id-requires c = omega (arith, (made c.args.fields.now [] c.requires
 
 pub overflow_cast-len : goal.overflow_cast-len
 overflow_cast-len c =
-    omega (arith, c.len.ensures, ap (λ (bytes : List ℕ). length bytes) c.in_ok-token.ensures, (made c.args.fields.now [] c.requires).most)
+    omega (
+      arith,
+      c.len.ensures,
+      ap (λ (bytes : List ℕ). length bytes) c.in_ok-token.ensures,
+      (made c.args.fields.now [] c.requires).most,
+    )
 
 pub header-requires-clause-kind : goal.header-requires-clause-kind
-header-requires-clause-kind c = omega (arith, c.byte_in-kind.ensures, kind_below c.args.fields.now c.requires)
+header-requires-clause-kind c =
+    omega (arith, c.byte_in-kind.ensures, kind_below c.args.fields.now c.requires)
 
 pub header-requires-clause-tkl : goal.header-requires-clause-tkl
 header-requires-clause-tkl c =
-    omega (arith, c.len.ensures, ap (λ (bytes : List ℕ). length bytes) c.in_ok-token.ensures, (made c.args.fields.now [] c.requires).most)
+    omega (
+      arith,
+      c.len.ensures,
+      ap (λ (bytes : List ℕ). length bytes) c.in_ok-token.ensures,
+      (made c.args.fields.now [] c.requires).most,
+    )
 
 pub put_options-requires : goal.put_options-requires
 put_options-requires c = (made c.args.fields.now [] c.requires).writable

@@ -4,4 +4,5 @@ use Rattle.compress.proofs.length.entries_len.Given as goal
 
 abbrev pub invariant-loop-entry : goal.invariant-loop-entry
 invariant-loop-entry l =
-    l.total + length (joined l.direction l.fields.items (drop l.entry-index l.entries)) ≡ length (joined l.direction l.fields.items l.fn.entries)
+    l.total + length (joined l.direction l.fields.items (drop l.entry-index l.entries)) ≡ length
+    (joined l.direction l.fields.items l.fn.entries)

@@ -4,4 +4,5 @@ use Rattle.rule_model.specs.Residue.{index_of}
 use Rattle.compress.proofs.length.index_len.Goals as goal
 
 pub returns : goal.returns
-returns c value = c.index_width.ensures.width ∙ sym (length-number_bits _ (index_of c.args.targets.now value))
+returns c value = c.index_width.ensures.width
+    ∙ sym (length-number_bits _ (index_of c.args.targets.now value))

@@ -5,5 +5,7 @@ use Rattle.editions.proofs.keys.candidate_of.Goals as goal
 
 pub wanted_of-requires : goal.wanted_of-requires
 wanted_of-requires c =
-    let found : key_entry c.args.stack c.args.listed.now.rule c.args.direction ≡ Some c.in_ok-entry.entry.now = search rules in
-    key-target-fits c.args.listed.now.rule c.args.stack c.args.direction c.in_ok-entry.entry.now c.rule-rule.ensures.admitted found
+    let found : key_entry c.args.stack c.args.listed.now.rule c.args.direction ≡ Some
+    c.in_ok-entry.entry.now = search rules in
+    key-target-fits c.args.listed.now.rule c.args.stack c.args.direction c.in_ok-entry.entry.now
+    c.rule-rule.ensures.admitted found

@@ -7,6 +7,13 @@ use Rattle.editions.proofs.limits.target_octets.Goals as goal
 
 pub loop-listed-preserved : goal.loop-listed-preserved
 loop-listed-preserved c =
-    let more = sum_by_more (λ listed. sum_by entry_octets listed.rule.entries) c.args.rules.now c.loop-listed.listed-index c.listed-item.result c.loop-listed-test.true in
-    let octets : c.saturating_add-octets.result ≡ min (target_octets (take (c.loop-listed.listed-index + 1) c.args.rules.now)) (2 ^ 64 - 1) = search (rules, more) in
-    (octets, All-more (λ listed. IsAdmitted listed.rule) c.args.rules.now c.loop-listed.listed-index c.listed-item.result c.loop-listed-test.true c.loop-listed.invariant.1 (search rules))
+    let more =
+    sum_by_more (λ listed. sum_by entry_octets listed.rule.entries) c.args.rules.now
+    c.loop-listed.listed-index c.listed-item.result c.loop-listed-test.true in
+    let octets : c.saturating_add-octets.result ≡ min
+    (target_octets (take (c.loop-listed.listed-index + 1) c.args.rules.now)) (2 ^ 64 - 1) =
+    search (rules, more) in (
+      octets,
+      All-more (λ listed. IsAdmitted listed.rule) c.args.rules.now c.loop-listed.listed-index
+          c.listed-item.result c.loop-listed-test.true c.loop-listed.invariant.1 (search rules),
+    )

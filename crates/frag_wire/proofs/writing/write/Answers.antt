@@ -7,5 +7,6 @@ use Rattle.frag_wire.proofs.writing.write.Goals as goal
 pub returns-clause-spells : goal.returns-clause-spells
 returns-clause-spells c =
     IfOk-weaker c.to_padded_bytes.result _ _
-    (λ bytes e. IsWritten-written _ _ _ _ _ c.requires.row c.requires.spelt (e ∙ ap (λ bits. bytes_of (padded bits)) (search rules)))
+    (λ bytes e. IsWritten-written _ _ _ _ _ c.requires.row c.requires.spelt
+    (e ∙ ap (λ bits. bytes_of (padded bits)) (search rules)))
     c.to_padded_bytes.ensures

@@ -6,4 +6,5 @@ use Rattle.ip_udp_fields.proofs.joining.order_fault.Given as goal
 
 abbrev pub invariant-loop-field : goal.invariant-loop-field
 invariant-loop-field l =
-    first_held (order l.names (drop l.field-index l.fields)) ≡ first_held (order (fields_in_packet_order l.fn.stack l.fn.direction) l.fields)
+    first_held (order l.names (drop l.field-index l.fields)) ≡ first_held
+    (order (fields_in_packet_order l.fn.stack l.fn.direction) l.fields)

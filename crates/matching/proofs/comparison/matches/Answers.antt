@@ -8,12 +8,18 @@ use Rattle.matching.proofs.comparison.matches.Goals as goal
 
 pub returns-clause-exact : goal.returns-clause-exact
 returns-clause-exact c =
-    subst (λ test. IsTrue test ↔ Matches c.args.rule.now c.args.iids c.args.direction c.args.fields.now.items c.args.computed.now)
-    (sym (c.rule_matches.ensures ∙ ap (λ (rule : RuleData). walk_holds rule c.args.iids c.args.direction c.args.fields.now.items c.args.computed.now) c.rule.ensures.rule))
-    (walk-tested c.args.rule.now c.args.iids c.args.direction c.args.fields.now.items c.args.computed.now c.rule.ensures.admitted)
+    subst (λ test. IsTrue test ↔ Matches c.args.rule.now c.args.iids c.args.direction
+    c.args.fields.now.items c.args.computed.now)
+    (sym (c.rule_matches.ensures
+    ∙ ap (λ (rule : RuleData). walk_holds rule c.args.iids c.args.direction
+    c.args.fields.now.items c.args.computed.now) c.rule.ensures.rule))
+    (walk-tested c.args.rule.now c.args.iids c.args.direction c.args.fields.now.items
+    c.args.computed.now c.rule.ensures.admitted)
 
 pub returns-clause-tested : goal.returns-clause-tested
 returns-clause-tested c =
     c.rule_matches.ensures
-    ∙ ap (λ (rule : RuleData). walk_holds rule c.args.iids c.args.direction c.args.fields.now.items c.args.computed.now) c.rule.ensures.rule
-    ∙ walk-is c.args.rule.now c.args.iids c.args.direction c.args.fields.now.items c.args.computed.now c.rule.ensures.admitted
+    ∙ ap (λ (rule : RuleData). walk_holds rule c.args.iids c.args.direction c.args.fields.now.items
+    c.args.computed.now) c.rule.ensures.rule
+    ∙ walk-is c.args.rule.now c.args.iids c.args.direction c.args.fields.now.items
+    c.args.computed.now c.rule.ensures.admitted

@@ -7,7 +7,8 @@ abbrev pub invariant-loop-room : goal.invariant-loop-room
 invariant-loop-room g l =
     (length l.bytes.items ≤ l.limit + 1)
     × (length l.room ≡ 4096)
-    × Consumes (g.S.Source.state l.initial.source).left (g.S.Source.state l.source).left l.bytes.items
+    × Consumes (g.S.Source.state l.initial.source).left (g.S.Source.state l.source).left
+    l.bytes.items
     × ((g.S.Source.state l.initial.source).faults ≤ (g.S.Source.state l.source).faults)
 
 abbrev pub decreases-loop-room : goal.decreases-loop-room

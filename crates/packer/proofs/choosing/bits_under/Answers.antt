@@ -9,8 +9,10 @@ pub residue_len-requires : goal.residue_len-requires
 residue_len-requires c =
     let h =
     (subst (HasBits c.args.rule.now c.args.direction c.args.packet.now) (sym c.split.view_is)
-    (has-bits c.args.rule.now c.requires.matching.0 c.args.direction c.args.packet.now c.args.split.now c.requires.admitted
-    (AreBytes-from_each c.args.packet.now (λ k. omega (arith, c.type_inv.packet k))) c.requires.split c.requires.matching.1))
+    (has-bits c.args.rule.now c.requires.matching.0 c.args.direction c.args.packet.now
+    c.args.split.now c.requires.admitted
+    (AreBytes-from_each c.args.packet.now (λ k. omega (arith, c.type_inv.packet k)))
+    c.requires.split c.requires.matching.1))
     in
     omega (arith, h.residue)
 
@@ -18,8 +20,10 @@ pub overflow_add-result : goal.overflow_add-result
 overflow_add-result c =
     let h =
     (subst (HasBits c.args.rule.now c.args.direction c.args.packet.now) (sym c.split.view_is)
-    (has-bits c.args.rule.now c.requires.matching.0 c.args.direction c.args.packet.now c.args.split.now c.requires.admitted
-    (AreBytes-from_each c.args.packet.now (λ k. omega (arith, c.type_inv.packet k))) c.requires.split c.requires.matching.1))
+    (has-bits c.args.rule.now c.requires.matching.0 c.args.direction c.args.packet.now
+    c.args.split.now c.requires.admitted
+    (AreBytes-from_each c.args.packet.now (λ k. omega (arith, c.type_inv.packet k)))
+    c.requires.split c.requires.matching.1))
     in
     omega (arith, h.residue, c.residue_len.ensures)
 
@@ -27,8 +31,10 @@ pub overflow_sub-result : goal.overflow_sub-result
 overflow_sub-result c =
     let h =
     (subst (HasBits c.args.rule.now c.args.direction c.args.packet.now) (sym c.split.view_is)
-    (has-bits c.args.rule.now c.requires.matching.0 c.args.direction c.args.packet.now c.args.split.now c.requires.admitted
-    (AreBytes-from_each c.args.packet.now (λ k. omega (arith, c.type_inv.packet k))) c.requires.split c.requires.matching.1))
+    (has-bits c.args.rule.now c.requires.matching.0 c.args.direction c.args.packet.now
+    c.args.split.now c.requires.admitted
+    (AreBytes-from_each c.args.packet.now (λ k. omega (arith, c.type_inv.packet k)))
+    c.requires.split c.requires.matching.1))
     in
     h.within
 
@@ -36,8 +42,10 @@ pub overflow_mul-result : goal.overflow_mul-result
 overflow_mul-result c =
     let h =
     (subst (HasBits c.args.rule.now c.args.direction c.args.packet.now) (sym c.split.view_is)
-    (has-bits c.args.rule.now c.requires.matching.0 c.args.direction c.args.packet.now c.args.split.now c.requires.admitted
-    (AreBytes-from_each c.args.packet.now (λ k. omega (arith, c.type_inv.packet k))) c.requires.split c.requires.matching.1))
+    (has-bits c.args.rule.now c.requires.matching.0 c.args.direction c.args.packet.now
+    c.args.split.now c.requires.admitted
+    (AreBytes-from_each c.args.packet.now (λ k. omega (arith, c.type_inv.packet k)))
+    c.requires.split c.requires.matching.1))
     in
     omega (arith, h.size)
 
@@ -45,21 +53,26 @@ pub overflow_add-result-2 : goal.overflow_add-result-2
 overflow_add-result-2 c =
     let h =
     (subst (HasBits c.args.rule.now c.args.direction c.args.packet.now) (sym c.split.view_is)
-    (has-bits c.args.rule.now c.requires.matching.0 c.args.direction c.args.packet.now c.args.split.now c.requires.admitted
-    (AreBytes-from_each c.args.packet.now (λ k. omega (arith, c.type_inv.packet k))) c.requires.split c.requires.matching.1))
+    (has-bits c.args.rule.now c.requires.matching.0 c.args.direction c.args.packet.now
+    c.args.split.now c.requires.admitted
+    (AreBytes-from_each c.args.packet.now (λ k. omega (arith, c.type_inv.packet k)))
+    c.requires.split c.requires.matching.1))
     in
     omega (arith, h.residue, h.size, c.residue_len.ensures)
 
 pub returns : goal.returns
 returns c =
     let b =
-    has-bits c.args.rule.now c.requires.matching.0 c.args.direction c.args.packet.now c.args.split.now c.requires.admitted
-    (AreBytes-from_each c.args.packet.now (λ k. omega (arith, c.type_inv.packet k))) c.requires.split c.requires.matching.1
+    has-bits c.args.rule.now c.requires.matching.0 c.args.direction c.args.packet.now
+    c.args.split.now c.requires.admitted
+    (AreBytes-from_each c.args.packet.now (λ k. omega (arith, c.type_inv.packet k)))
+    c.requires.split c.requires.matching.1
     in
     omega (
       arith,
       b.bits,
       c.residue_len.ensures,
-      ap (λ (s : SplitData). length (residue_of c.args.rule.now c.args.direction s.fields)) c.split.view_is,
+      ap (λ (s : SplitData). length (residue_of c.args.rule.now c.args.direction s.fields))
+          c.split.view_is,
       ap (λ (s : SplitData). s.payload_from) c.split.view_is,
     )

@@ -4,4 +4,5 @@ use Rattle.packer.proofs.choosing.first_candidate.Goals as goal
 
 pub candidate_under-candidate-requires : goal.candidate_under-candidate-requires
 candidate_under-candidate-requires c =
-    λ listed found. c.requires (get_or c.args.ids.now c.loop-id.id-index 0) listed (Contains-get_or c.args.ids.now c.loop-id.id-index 0 c.loop-id-test.true) found
+    λ listed found. c.requires (get_or c.args.ids.now c.loop-id.id-index 0) listed
+    (Contains-get_or c.args.ids.now c.loop-id.id-index 0 c.loop-id-test.true) found

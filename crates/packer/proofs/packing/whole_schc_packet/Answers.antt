@@ -5,5 +5,6 @@ use Rattle.packer.proofs.packing.whole_schc_packet.Goals as goal
 pub invariant_of-result : goal.invariant_of-result
 invariant_of-result c = (
   omega arith,
-  with_more c.push_bits.new.self _ c.push_bytes.new.self c.in_ok-push_bytes.ensures.ok (with_id _ _ c.push_bits.new.self c.in_ok-push_bits.ensures.ok),
+  with_more c.push_bits.new.self _ c.push_bytes.new.self c.in_ok-push_bytes.ensures.ok
+      (with_id _ _ c.push_bits.new.self c.in_ok-push_bits.ensures.ok),
 )

@@ -5,4 +5,9 @@ use Rattle.packer.proofs.splits.add_coap.Goals as goal
 
 pub overflow_add-split : goal.overflow_add-split
 overflow_add-split c =
-    omega (arith, behind-within _ c.split_at.result.1.now _ c.in-Ok.ensures.ok, c.split_at.ensures.back_len, size_after-below c.args.packet.now c.requires.udp.ipv6)
+    omega (
+      arith,
+      behind-within _ c.split_at.result.1.now _ c.in-Ok.ensures.ok,
+      c.split_at.ensures.back_len,
+      size_after-below c.args.packet.now c.requires.udp.ipv6,
+    )

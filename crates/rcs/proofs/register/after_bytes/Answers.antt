@@ -1,4 +1,5 @@
-use Rattle.std.proofs.Common.{arith, sym, ap, subst, ◌∙◌, suc, ◌≡◌, ◌+◌, ◌%◌, ◌^◌, ◌<◌, ◌∷◌, get_or, drop, drop-cons}
+use Rattle.std.proofs.Common.{arith, sym, ap, subst, ◌∙◌, suc, ◌≡◌, ◌+◌, ◌%◌, ◌^◌, ◌<◌, ◌∷◌, get_or}
+use Rattle.std.proofs.Common.{drop, drop-cons}
 use Rattle.std.proofs.lemmas.List.{drop_all}
 use Rattle.std.proofs.lemmas.Nat.{mod_below, pow_pos}
 use Rattle.schc_bits.specs.Bits.{octets}
@@ -16,12 +17,15 @@ loop-byte-preserved c =
     let w = c.with_byte-window.ensures in
     let one = one-shl count (omega (arith, c.requires.count)) in
     let cons : drop i bytes ≡ get_or bytes i 0 ∷ rest =
-    drop-cons bytes i 0 c.loop-byte-test.true ∙ ap (λ n. get_or bytes i 0 ∷ drop n bytes) (let e : suc i ≡ i + 1 = omega arith in e)
+    drop-cons bytes i 0 c.loop-byte-test.true
+    ∙ ap (λ n. get_or bytes i 0 ∷ drop n bytes) (let e : suc i ≡ i + 1 = omega arith in e)
     in (
       subst (λ n. window % n < 2 ^ count) (sym one) (mod_below window (2 ^ count) (pow_pos count)),
       ap (λ n. added (sum_of c.next_word-word.result count (window % n)) (octets rest)) one
-          ∙ ap (λ word. added (sum_of word count (window % 2 ^ count)) (octets rest)) c.next_word-word.ensures
-          ∙ bytes-more c.loop-byte.word count c.loop-byte.part (get_or bytes i 0) window rest w.byte w.sum c.requires.count (full-byte window count w.below)
+          ∙ ap (λ word. added (sum_of word count (window % 2 ^ count)) (octets rest))
+          c.next_word-word.ensures
+          ∙ bytes-more c.loop-byte.word count c.loop-byte.part (get_or bytes i 0) window rest w.byte
+          w.sum c.requires.count (full-byte window count w.below)
           ∙ ap (λ xs. added (sum_of c.loop-byte.word count c.loop-byte.part) (octets xs)) (sym cons)
           ∙ c.loop-byte.invariant.1,
     )

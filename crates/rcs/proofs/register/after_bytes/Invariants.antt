@@ -7,4 +7,5 @@ use Rattle.rcs.proofs.register.after_bytes.Given as goal
 abbrev pub invariant-loop-byte : goal.invariant-loop-byte
 invariant-loop-byte l =
     (l.part < 2 ^ l.count)
-    × (added (sum_of l.word l.count l.part) (octets (drop l.byte-index l.bytes)) ≡ added (sum_of l.fn.word l.count l.fn.part) (octets l.bytes))
+    × (added (sum_of l.word l.count l.part) (octets (drop l.byte-index l.bytes)) ≡ added
+    (sum_of l.fn.word l.count l.fn.part) (octets l.bytes))

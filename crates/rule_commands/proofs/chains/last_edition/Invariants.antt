@@ -5,4 +5,5 @@ use Rattle.rule_commands.proofs.chains.last_edition.Given as goal
 
 -- the editions that are left go on from the last one
 abbrev pub invariant-loop-raw : goal.invariant-loop-raw
-invariant-loop-raw l = last_from l.last (drop l.raw-index l.editions) ≡ last_from first_edition l.editions
+invariant-loop-raw l =
+    last_from l.last (drop l.raw-index l.editions) ≡ last_from first_edition l.editions

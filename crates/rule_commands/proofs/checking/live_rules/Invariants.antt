@@ -6,4 +6,5 @@ use Rattle.rule_commands.proofs.checking.live_rules.Given as goal
 abbrev pub invariant-loop-listed : goal.invariant-loop-listed
 invariant-loop-listed l =
     (l.count ≤ l.listed-index)
-    × (l.count + length (filter (λ listed. listed.live) (drop l.listed-index l.rules)) ≡ length (filter (λ listed. listed.live) l.rules))
+    × (l.count + length (filter (λ listed. listed.live) (drop l.listed-index l.rules)) ≡ length
+    (filter (λ listed. listed.live) l.rules))

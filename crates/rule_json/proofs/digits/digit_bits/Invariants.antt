@@ -4,4 +4,5 @@ use Rattle.rule_json.proofs.ListLemmas.{with_front}
 use Rattle.rule_json.proofs.digits.digit_bits.Given as goal
 
 abbrev pub invariant-loop-digit : goal.invariant-loop-digit
-invariant-loop-digit l = with_front l.bits (digit_bits (drop l.digit-index l.text)) ≡ digit_bits l.fn.text
+invariant-loop-digit l =
+    with_front l.bits (digit_bits (drop l.digit-index l.text)) ≡ digit_bits l.fn.text

@@ -8,5 +8,7 @@ use Rattle.rule_json.proofs.entry.target_list.Given as goal
 
 abbrev pub invariant-loop-value : goal.invariant-loop-value
 invariant-loop-value l =
-    with_front l.targets.items (each_of (text_in (target_of l.length)) (items_of (map view (drop l.value-index l.value-items))))
+    with_front l.targets.items
+    (each_of (text_in (target_of l.length))
+    (items_of (map view (drop l.value-index l.value-items))))
     ≡ list_of (text_in (target_of l.length)) (view l.fn.value)

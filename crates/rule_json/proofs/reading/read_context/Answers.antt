@@ -5,4 +5,5 @@ use Rattle.rule_json.proofs.reading.read_context.Goals as goal
 
 pub returns-clause-spelt : goal.returns-clause-spelt
 returns-clause-spelt c =
-    given (λ context. AllByRecursion CanBeSpelt context.editions) _ (context-spelt _) c.from_json.result c.from_json.ensures
+    given (λ context. AllByRecursion CanBeSpelt context.editions) _ (context-spelt _)
+    c.from_json.result c.from_json.ensures

@@ -5,4 +5,5 @@ use Rattle.rule_json.proofs.reading.read_work.Goals as goal
 
 pub returns-clause-spelt : goal.returns-clause-spelt
 returns-clause-spelt c =
-    given (λ work. AllByRecursion CanBeSpelt work.editions) _ (work-spelt _) c.from_json.result c.from_json.ensures
+    given (λ work. AllByRecursion CanBeSpelt work.editions) _ (work-spelt _) c.from_json.result
+    c.from_json.ensures

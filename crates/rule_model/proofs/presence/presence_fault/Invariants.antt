@@ -5,4 +5,5 @@ use Rattle.rule_model.proofs.presence.presence_fault.Given as goal
 
 abbrev pub invariant-loop-name : goal.invariant-loop-name
 invariant-loop-name l =
-    first_held (presence l.fields (drop l.name-index l.names)) ≡ first_held (presence l.fields l.fn.names)
+    first_held (presence l.fields (drop l.name-index l.names)) ≡ first_held
+    (presence l.fields l.fn.names)

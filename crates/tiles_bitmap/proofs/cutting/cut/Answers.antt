@@ -4,7 +4,8 @@ use Rattle.tiles_bitmap.proofs.TilesLemmas.{ends-begin, ends-more, ends-last}
 use Rattle.tiles_bitmap.proofs.cutting.cut.Goals as goal
 
 pub loop-at-init : goal.loop-at-init
-loop-at-init c = (omega arith, rw c.new-cuts.ensures (ends-begin c.args.params.now c.args.mtu c.args.bits))
+loop-at-init c =
+    (omega arith, rw c.new-cuts.ensures (ends-begin c.args.params.now c.args.mtu c.args.bits))
 
 pub loop-at-preserved : goal.loop-at-preserved
 loop-at-preserved c =
@@ -13,7 +14,8 @@ loop-at-preserved c =
     in (
       omega (arith, c.tile_size-at.ensures.leaves),
       rw (c.in_ok-push.ensures.ok, c.tile_size-at.ensures.value)
-          (ends-more c.loop-at.cuts.items c.args.params.now.mode c.args.mtu c.loop-at.at c.args.bits c.requires.least c.loop-at.invariant.0 more ∙ c.loop-at.invariant.1),
+          (ends-more c.loop-at.cuts.items c.args.params.now.mode c.args.mtu c.loop-at.at c.args.bits
+          c.requires.least c.loop-at.invariant.0 more ∙ c.loop-at.invariant.1),
     )
 
 pub returns : goal.returns
@@ -22,4 +24,5 @@ returns c =
     subst (λ n. c.args.bits - c.loop-at.at ≤ n) c.most_in_last-most.ensures c.loop-at-test.false
     in
     rw c.in_ok-push-2.ensures.ok
-    (ends-last c.loop-at.cuts.items c.args.params.now.mode c.args.mtu c.loop-at.at c.args.bits c.loop-at.invariant.0 fits ∙ c.loop-at.invariant.1)
+    (ends-last c.loop-at.cuts.items c.args.params.now.mode c.args.mtu c.loop-at.at c.args.bits
+    c.loop-at.invariant.0 fits ∙ c.loop-at.invariant.1)

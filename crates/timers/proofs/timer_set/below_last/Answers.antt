@@ -4,4 +4,5 @@ use Rattle.timers.proofs.WheelLemmas.{left-anew}
 use Rattle.timers.proofs.timer_set.below_last.Goals as goal
 
 pub returns-clause-same : goal.returns-clause-same
-returns-clause-same c = ap (λ ds. map (left 0) ds) c.count_from.ensures ∙ left-anew c.args.now c.args.deadlines.now
+returns-clause-same c = ap (λ ds. map (left 0) ds) c.count_from.ensures
+    ∙ left-anew c.args.now c.args.deadlines.now

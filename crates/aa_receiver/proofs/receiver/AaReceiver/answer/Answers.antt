@@ -12,15 +12,20 @@ returns-in-None-clause-after c =
 pub write-requires-clause-spelt : goal.write-requires-clause-spelt
 write-requires-clause-spelt c =
     rw c.new-none.ensures
-    (answer_spelt c.self.inside.params c.self.inside.kept c.self.inside.state c.in-Some.message c.self.invariant.0 c.self.invariant.1
+    (answer_spelt c.self.inside.params c.self.inside.kept c.self.inside.state c.in-Some.message
+    c.self.invariant.0 c.self.invariant.1
     (sym (c.due_message.ensures c.self.inside.kept) ∙ c.in-Some.is))
 
 pub invariant_of-self : goal.invariant_of-self
-invariant_of-self c =
-    (c.self.invariant.0, c.after_answer-self-inside.ensures.stands c.self.inside.kept c.self.invariant.1)
+invariant_of-self c = (
+  c.self.invariant.0,
+  c.after_answer-self-inside.ensures.stands c.self.inside.kept
+      c.self.invariant.1,
+)
 
 pub returns-in_ok-bytes-in-Some-clause-room : goal.returns-in_ok-bytes-in-Some-clause-room
 returns-in_ok-bytes-in-Some-clause-room c =
     rw (c.in_ok-bytes-in-Some.ensures.exact, c.new-none.ensures)
-    (answer_room c.self.inside.params c.self.inside.kept c.self.inside.state c.in-Some.message c.self.invariant.0
+    (answer_room c.self.inside.params c.self.inside.kept c.self.inside.state c.in-Some.message
+    c.self.invariant.0
     (sym (c.due_message.ensures c.self.inside.kept) ∙ c.in-Some.is))

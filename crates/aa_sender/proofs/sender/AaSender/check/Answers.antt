@@ -8,7 +8,8 @@ use Rattle.aa_sender.proofs.sender.AaSender.check.Goals as goal
 pub overflow_add-padding : goal.overflow_add-padding
 overflow_add-padding c =
     let is : IsAaSender c.args.self.now = subst IsAaSender c.self.view_is c.self.invariant.0 in
-    let short : 34 + c.args.size ≤ 1936 = check_short c.args.self.now c.args.size is c.requires.last in
+    let short : 34 + c.args.size ≤ 1936 =
+    check_short c.args.self.now c.args.size is c.requires.last in
     omega (arith, short)
 
 pub returns : goal.returns

@@ -16,5 +16,6 @@ returns-clause-room c =
     IfOk-weaker c.write.result _ _
     (λ bytes e. rw e
     (room_regular c.self.inside.params _ 2 c.args.self.now.mtu _ c.self.invariant.0.row
-    (rw c.in_ok-payload.ensures (regular_is c.args.self.now c.args.tile is c.requires.inside).fits)))
+    (rw c.in_ok-payload.ensures
+    (regular_is c.args.self.now c.args.tile is c.requires.inside).fits)))
     c.write.ensures.exact

@@ -5,7 +5,8 @@ pub invariant_of-self : goal.invariant_of-self
 invariant_of-self c = store-last _ _ _ _ _ _ c.self.invariant c.requires.most c.write_at.ensures
 
 pub returns-clause-tiles : goal.returns-clause-tiles
-returns-clause-tiles c = rw (← c.self.view_is) (tiles-last _ _ _ _ _ _ c.self.invariant c.write_at.ensures)
+returns-clause-tiles c =
+    rw (← c.self.view_is) (tiles-last _ _ _ _ _ _ c.self.invariant c.write_at.ensures)
 
 pub returns-clause-last : goal.returns-clause-last
 returns-clause-last c = last-last _ _ _ _ _ _ c.self.invariant c.write_at.ensures

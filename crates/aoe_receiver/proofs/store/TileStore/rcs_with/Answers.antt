@@ -9,11 +9,16 @@ unfolding joined_tiles
 loop-place-init c = c.new-register.ensures
 
 pub loop-place-preserved : goal.loop-place-preserved
-loop-place-preserved c = sums-next _ _ _ _ c.tile_at-held.result.now c.add.ensures c.loop-place.invariant c.tile_at-held.ensures.joins
+loop-place-preserved c =
+    sums-next _ _ _ _ c.tile_at-held.result.now c.add.ensures c.loop-place.invariant
+    c.tile_at-held.ensures.joins
 
 pub returns : goal.returns
 returns c =
-    let last : c.loop-place.place ≡ 63 * (c.args.w + 1) = omega (arith, c.loop-place-test.false, c.loop-place.auto.place-end, c.from.ensures) in
+    let last : c.loop-place.place ≡ 63 * (c.args.w + 1) =
+    omega (arith, c.loop-place-test.false, c.loop-place.auto.place-end, c.from.ensures) in
     let all = joined_tiles (take (63 * (c.args.w + 1)) c.args.self.now.tiles) in
     c.value.ensures (all ++ octets c.args.tile.now)
-    (sums-next _ _ _ _ c.args.tile.now c.add-2.ensures c.loop-place.invariant (ap (λ n. joined_tiles (take n c.args.self.now.tiles) ++ octets c.args.tile.now) (sym last)))
+    (sums-next _ _ _ _ c.args.tile.now c.add-2.ensures c.loop-place.invariant
+    (ap (λ n. joined_tiles (take n c.args.self.now.tiles) ++ octets c.args.tile.now)
+    (sym last)))

@@ -6,4 +6,5 @@ use Rattle.end_core.proofs.end.End.form_of.Goals as goal
 
 pub returns-clause-begins : goal.returns-clause-begins
 returns-clause-begins c =
-    IfOk-weaker c.pack.result _ BeginsWithId (λ written e. subst BeginsWithId (sym e) (packed-begins _ _ _ _)) c.pack.ensures.as_packed
+    IfOk-weaker c.pack.result _ BeginsWithId
+    (λ written e. subst BeginsWithId (sym e) (packed-begins _ _ _ _)) c.pack.ensures.as_packed

@@ -8,7 +8,8 @@ use Rattle.end_core.proofs.end.End.take_part.Goals as goal
 pub returns-clause-done : goal.returns-clause-done
 returns-clause-done c =
     rw (sym c.self.view_is)
-    (part-taken _ c.args.frame.now c.number.result c.take-note.new.self c.take-note.result c.in_ok-joined.joined
+    (part-taken _ c.args.frame.now c.number.result c.take-note.new.self c.take-note.result
+    c.in_ok-joined.joined
     (ap (λ this. joined this c.args.frame.now) c.self.view_is ∙ sym c.in_ok-joined.ensures.done)
     (rw (sym c.frame.view_is, sym c.as_slice-bytes.ensures) c.take-note.ensures.step)
     (c.number.ensures.number ∙ ap (λ edition. edition.number) c.deref.ensures) c.taken_part.ensures)
@@ -16,9 +17,11 @@ returns-clause-done c =
 pub returns-clause-outcome : goal.returns-clause-outcome
 returns-clause-outcome c =
     rw c.taken_part.ensures
-    (part_note c.number.result c.take-note.result c.in_ok-joined.joined c.take-note.ensures.note c.in_ok-joined.ensures.note)
+    (part_note c.number.result c.take-note.result c.in_ok-joined.joined c.take-note.ensures.note
+    c.in_ok-joined.ensures.note)
 
 pub returns-clause-bound : goal.returns-clause-bound
 returns-clause-bound c =
     rw c.taken_part.ensures
-    (part_within c.args.frame.now c.number.result c.take-note.result c.in_ok-joined.joined c.in_ok-joined.ensures.bound)
+    (part_within c.args.frame.now c.number.result c.take-note.result c.in_ok-joined.joined
+    c.in_ok-joined.ensures.bound)

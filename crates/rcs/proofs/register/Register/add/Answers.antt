@@ -6,7 +6,8 @@ use Rattle.rcs.proofs.register.Register.add.Goals as goal
 
 pub loop-at-init : goal.loop-at-init
 loop-at-init c = (
-  λ bits h. range-none c.args.self.now bits (drop c.args.from (octets c.args.bytes.now)) c.args.from h,
+  λ bits h. range-none c.args.self.now bits (drop c.args.from (octets c.args.bytes.now)) c.args.from
+      h,
   omega arith,
   c.requires.order,
 )
@@ -17,13 +18,20 @@ loop-at-preserved c =
     let piece = c.add_piece-at in
     let width = piece.result - at in
     let place : at + width ≡ piece.result = omega (arith, piece.ensures.further) in (
-      λ bits h. subst (λ n. Sums piece.new.self (bits ++ take (n - c.args.from) (drop c.args.from (octets c.args.bytes.now)))) place
-          (range-more c.loop-at.self piece.new.self bits (octets c.args.bytes.now) c.args.from at width c.loop-at.invariant.1 (c.loop-at.invariant.0 bits h) piece.ensures.added),
+      λ bits h. subst
+          (λ n. Sums piece.new.self
+          (bits ++ take (n - c.args.from) (drop c.args.from (octets c.args.bytes.now)))) place
+          (range-more c.loop-at.self piece.new.self bits (octets c.args.bytes.now) c.args.from at
+          width c.loop-at.invariant.1 (c.loop-at.invariant.0 bits h) piece.ensures.added),
       omega (arith, c.loop-at.invariant.1, piece.ensures.further),
       piece.ensures.within,
     )
 
 pub returns : goal.returns
 returns c =
-    let last : c.loop-at.at ≡ c.args.to = omega (arith, c.loop-at-test.false, c.loop-at.invariant.2) in
-    λ bits h. subst (λ n. Sums c.loop-at.self (bits ++ take (n - c.args.from) (drop c.args.from (octets c.args.bytes.now)))) last (c.loop-at.invariant.0 bits h)
+    let last : c.loop-at.at ≡ c.args.to =
+    omega (arith, c.loop-at-test.false, c.loop-at.invariant.2) in
+    λ bits h. subst
+    (λ n. Sums c.loop-at.self
+    (bits ++ take (n - c.args.from) (drop c.args.from (octets c.args.bytes.now)))) last
+    (c.loop-at.invariant.0 bits h)

@@ -6,7 +6,8 @@ use Rattle.rcs.proofs.register.Register.add.Given as goal
 -- the bits up to the place are added
 abbrev pub invariant-loop-at : goal.invariant-loop-at
 invariant-loop-at l =
-    ((bits : List Bool) → Sums l.fn.self bits → Sums l.self (bits ++ take (l.at - l.fn.from) (drop l.fn.from (octets l.bytes))))
+    ((bits : List Bool) → Sums l.fn.self bits
+    → Sums l.self (bits ++ take (l.at - l.fn.from) (drop l.fn.from (octets l.bytes))))
     × (l.fn.from ≤ l.at)
     × (l.at ≤ l.to)
 

@@ -6,11 +6,17 @@ use Rattle.reassembly.proofs.KeptLemmas.{length-kept, part-left, has-no-room, le
 use Rattle.reassembly.proofs.buffer.Reassembly.has_room.Goals as goal
 
 pub returns-then-whole : goal.returns-then-whole
-returns-then-whole c = has-no-room c.args.self.now (drop c.args.from (octets c.args.bytes.now)) (omega (arith, c.if-whole.true, length-tail c.args.from c.args.bytes.now))
+returns-then-whole c =
+    has-no-room c.args.self.now (drop c.args.from (octets c.args.bytes.now))
+    (omega (arith, c.if-whole.true, length-tail c.args.from c.args.bytes.now))
 
 pub returns : goal.returns
 unfolding has_room
 returns c =
-    let size : length c.args.self.now ≡ c.self.inside.count = ap length (sym c.self.view_is) ∙ length-kept c.self.inside.count c.self.inside.buffer.items (omega (arith, c.self.invariant.0, c.self.invariant.1)) in
-    ap (λ n. nat_le (n + (8 * (length c.args.bytes.now - c.args.from / 8) - c.args.from % 8)) 20240) (sym size)
-    ∙ ap (λ n. nat_le (length c.args.self.now + n) 20240) (part-left c.args.from c.args.bytes.now c.requires.within)
+    let size : length c.args.self.now ≡ c.self.inside.count = ap length (sym c.self.view_is)
+    ∙ length-kept c.self.inside.count c.self.inside.buffer.items
+    (omega (arith, c.self.invariant.0, c.self.invariant.1)) in
+    ap (λ n. nat_le (n + (8 * (length c.args.bytes.now - c.args.from / 8) - c.args.from % 8)) 20240)
+    (sym size)
+    ∙ ap (λ n. nat_le (length c.args.self.now + n) 20240)
+    (part-left c.args.from c.args.bytes.now c.requires.within)

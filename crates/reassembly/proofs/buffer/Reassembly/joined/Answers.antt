@@ -10,7 +10,14 @@ after-requires c =
 
 pub returns : goal.returns
 returns c =
-    let kept = kept-copied c.args.self.now c.self.inside.buffer.items c.split_at.result.0.now c.self.inside.count c.div_ceil.result (omega (arith, c.div_ceil.ensures)) (c.split_at.ensures.front ∙ ap (λ bytes. take c.div_ceil.result bytes) c.deref.ensures.value) c.self.view_is in
-    let front = c.truncate.ensures ∙ ap (λ bits. take c.self.inside.count bits) c.in_ok-bits.ensures ∙ kept in
-    let back = c.after.ensures ∙ ap (λ bits. drop c.args.from bits) (c.as_part.ensures ∙ c.in_ok-part.ensures) in
-    c.in_ok-extend_from_part.ensures.ok ∙ ap (λ bits. bits ++ c.after.result) front ∙ ap (λ bits. c.args.self.now ++ bits) back
+    let kept =
+    kept-copied c.args.self.now c.self.inside.buffer.items c.split_at.result.0.now
+    c.self.inside.count c.div_ceil.result (omega (arith, c.div_ceil.ensures))
+    (c.split_at.ensures.front
+    ∙ ap (λ bytes. take c.div_ceil.result bytes) c.deref.ensures.value) c.self.view_is in
+    let front = c.truncate.ensures ∙ ap (λ bits. take c.self.inside.count bits) c.in_ok-bits.ensures
+    ∙ kept in
+    let back = c.after.ensures
+    ∙ ap (λ bits. drop c.args.from bits) (c.as_part.ensures ∙ c.in_ok-part.ensures) in
+    c.in_ok-extend_from_part.ensures.ok ∙ ap (λ bits. bits ++ c.after.result) front
+    ∙ ap (λ bits. c.args.self.now ++ bits) back

@@ -4,4 +4,6 @@ use Rattle.reassembly.proofs.buffer.Reassembly.len.Goals as goal
 
 pub returns-clause-count : goal.returns-clause-count
 returns-clause-count c =
-    sym (ap length (sym c.self.view_is) ∙ length-kept c.self.inside.count c.self.inside.buffer.items (omega (arith, c.self.invariant.0, c.self.invariant.1)))
+    sym (ap length (sym c.self.view_is)
+    ∙ length-kept c.self.inside.count c.self.inside.buffer.items
+    (omega (arith, c.self.invariant.0, c.self.invariant.1)))

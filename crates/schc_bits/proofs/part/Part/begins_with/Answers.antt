@@ -10,13 +10,16 @@ returns-then-read_at c = (
       absurd
       (
       differ-more _ _ _ _ c.step_at-step.ensures.within
-      (λ same. c.if-read_at.true (c.read_at.ensures.value ∙ same ∙ sym c.read_at-in-loop-at.ensures.value))
+      (λ same. c.if-read_at.true
+      (c.read_at.ensures.value ∙ same ∙ sym c.read_at-in-loop-at.ensures.value))
       e
       ),
 )
 
 pub loop-at-preserved : goal.loop-at-preserved
 loop-at-preserved c = (
-  same-more _ _ _ _ (omega (arith, c.if-len.false, c.len.ensures, c.len-2.ensures)) c.step_at-step.ensures.within c.loop-at.invariant.0 (sym c.read_at.ensures.value ∙ c.if-read_at.false ∙ c.read_at-in-loop-at.ensures.value),
+  same-more _ _ _ _ (omega (arith, c.if-len.false, c.len.ensures, c.len-2.ensures))
+      c.step_at-step.ensures.within c.loop-at.invariant.0
+      (sym c.read_at.ensures.value ∙ c.if-read_at.false ∙ c.read_at-in-loop-at.ensures.value),
   c.step_at-step.ensures.within,
 )

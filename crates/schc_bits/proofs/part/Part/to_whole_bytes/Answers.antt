@@ -5,7 +5,8 @@ use Rattle.schc_bits.proofs.part.Part.to_whole_bytes.Goals as goal
 
 pub returns : goal.returns
 returns c =
-    let front : c.front.result ≡ take (length c.args.self.now - length c.args.self.now % 8) c.args.self.now =
+    let front : c.front.result ≡ take (length c.args.self.now - length c.args.self.now % 8)
+    c.args.self.now =
     rw (c.len.ensures, c.len-2.ensures) at c.front.ensures
     in
     let same : bytes_of (padded c.front.result) ≡ bytes_of c.args.self.now =

@@ -12,7 +12,9 @@ pub loop-due-preserved : goal.loop-due-preserved
 loop-due-preserved c =
     let led = leads_some c.loop-due.self c.loop-due.due c.in-Some.clock c.in-Some.ensures.first in (
       ap cleared c.in-Some.ensures.taken ∙ led.after ∙ c.loop-due.invariant.0,
-      ap (λ due. both due (due_in c.due.new.self)) c.with-due.ensures ∙ ap (λ s. both (with_clock c.loop-due.due c.in-Some.clock) (due_in s)) c.in-Some.ensures.taken ∙ led.taken ∙ c.loop-due.invariant.1,
+      ap (λ due. both due (due_in c.due.new.self)) c.with-due.ensures
+          ∙ ap (λ s. both (with_clock c.loop-due.due c.in-Some.clock) (due_in s))
+          c.in-Some.ensures.taken ∙ led.taken ∙ c.loop-due.invariant.1,
     )
 
 pub returns-clause-due : goal.returns-clause-due

@@ -13,7 +13,11 @@ returns-then-not-self c =
     let m = c.args.message.now in
     let v = c.self.view_is in
     record {
-      step = subst (λ x. answer_taken x (out_key x.role true) m (found (out_key x.role true) x.senders) ≡ (x, _)) v (hear_unanswered s.role s.params s.running s.answering s.silent s.next s.clocks m c.if-not-self.true);
+      step = subst
+          (λ x. answer_taken x (out_key x.role true) m
+          (found (out_key x.role true) x.senders) ≡ (x, _)) v
+          (hear_unanswered s.role s.params s.running s.answering s.silent s.next s.clocks m
+          c.if-not-self.true);
       role = refl;
       params = refl;
     }
@@ -24,7 +28,10 @@ returns-in_default c =
     let m = c.args.message.now in
     let v = c.self.view_is in
     record {
-      step = ap (λ x. answer_taken x (out_key x.role true) m (found (out_key x.role true) x.senders)) (sym v) ∙ hear_none s.role s.params s.running s.answering s.silent s.next s.clocks m c.if-not-self.false c.in_default.is;
+      step = ap
+          (λ x. answer_taken x (out_key x.role true) m (found (out_key x.role true) x.senders))
+          (sym v) ∙ hear_none s.role s.params s.running s.answering s.silent s.next s.clocks m
+          c.if-not-self.false c.in_default.is;
       role = ap (λ x. x.role) v;
       params = ap (λ x. x.params) v;
     }
@@ -32,7 +39,9 @@ returns-in_default c =
 pub hear_message-heard-requires-clause-answer : goal.hear_message-heard-requires-clause-answer
 hear_message-heard-requires-clause-answer c =
     let s = c.self.inside in
-    has_answer s.role s.params s.running c.in-Some.running s.clocks.sending c.args.message.now c.args.self.now.role c.if-not-self.false c.in-Some.is c.self.invariant.sends (ap (λ x. x.role) (sym c.self.view_is)) c.requires
+    has_answer s.role s.params s.running c.in-Some.running s.clocks.sending c.args.message.now
+    c.args.self.now.role c.if-not-self.false c.in-Some.is c.self.invariant.sends
+    (ap (λ x. x.role) (sym c.self.view_is)) c.requires
 
 pub returns : goal.returns
 returns c =
@@ -40,7 +49,13 @@ returns c =
     let m = c.args.message.now in
     let v = c.self.view_is in
     record {
-      step = ap (λ x. answer_taken x (out_key x.role true) m (found (out_key x.role true) x.senders)) (sym v) ∙ hear_some s.role s.params s.running c.in-Some.running c.hear_message-heard.new.running s.answering s.silent s.next s.clocks c.hear_message-heard.new.clocks m c.hear_message-heard.result c.heard_note.result c.heard_report.result c.if-not-self.false c.in-Some.is c.hear_message-heard.ensures.exact c.hear_message-heard.ensures.others c.heard_note.ensures c.heard_report.ensures;
+      step = ap
+          (λ x. answer_taken x (out_key x.role true) m (found (out_key x.role true) x.senders))
+          (sym v) ∙ hear_some s.role s.params s.running c.in-Some.running
+          c.hear_message-heard.new.running s.answering s.silent s.next s.clocks
+          c.hear_message-heard.new.clocks m c.hear_message-heard.result c.heard_note.result
+          c.heard_report.result c.if-not-self.false c.in-Some.is c.hear_message-heard.ensures.exact
+          c.hear_message-heard.ensures.others c.heard_note.ensures c.heard_report.ensures;
       role = ap (λ x. x.role) v;
       params = ap (λ x. x.params) v;
     }

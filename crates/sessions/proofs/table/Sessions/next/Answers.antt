@@ -6,10 +6,13 @@ use Rattle.sessions.proofs.table.Sessions.next.Goals as goal
 
 pub returns-in-Some-clause-step : goal.returns-in-Some-clause-step
 returns-in-Some-clause-step c =
-    next_answer c.args.self.now c.answer.new.self c.in-Some.out (some_of c.in_ok-out.field-0 _ _ c.in-Some.is c.in_ok-out.ensures.step)
+    next_answer c.args.self.now c.answer.new.self c.in-Some.out
+    (some_of c.in_ok-out.field-0 _ _ c.in-Some.is c.in_ok-out.ensures.step)
 
 pub returns-in-None-clause-step : goal.returns-in-None-clause-step
 returns-in-None-clause-step c =
     let none = none_of c.in_ok-out.field-0 _ c.in-None.is c.in_ok-out.ensures.none in
     let same = none_of c.in_ok-out.field-0 _ c.in-None.is c.in_ok-out.ensures.same in
-    IfOk-weaker c.send.result _ _ (λ out h. next_message c.args.self.now (c.send.new.self, out) none (ap (λ s. next_from s (message_choice s.senders)) (sym same) ∙ h)) c.send.ensures.step
+    IfOk-weaker c.send.result _ _
+    (λ out h. next_message c.args.self.now (c.send.new.self, out) none
+    (ap (λ s. next_from s (message_choice s.senders)) (sym same) ∙ h)) c.send.ensures.step

@@ -15,7 +15,12 @@ returns-then-acked c =
     let v = c.self.view_is in
     let took = c.take_message in
     record {
-      step = ap (λ x. fragment_taken x (in_key x.role c.args.acked) m payload (found (in_key x.role c.args.acked) x.receivers)) (sym v) ∙ receive_answering s.role s.params s.running s.answering s.silent took.new.receiver s.next s.clocks took.new.clocks m payload took.result c.args.acked c.if-acked.true took.ensures.exact took.ensures.others;
+      step = ap
+          (λ x. fragment_taken x (in_key x.role c.args.acked) m payload
+          (found (in_key x.role c.args.acked) x.receivers)) (sym v)
+          ∙ receive_answering s.role s.params s.running s.answering s.silent took.new.receiver
+          s.next s.clocks took.new.clocks m payload took.result c.args.acked c.if-acked.true
+          took.ensures.exact took.ensures.others;
       role = ap (λ x. x.role) v;
       params = ap (λ x. x.params) v;
     }
@@ -28,7 +33,12 @@ returns-else-acked c =
     let v = c.self.view_is in
     let took = c.take_message-else-acked in
     record {
-      step = ap (λ x. fragment_taken x (in_key x.role c.args.acked) m payload (found (in_key x.role c.args.acked) x.receivers)) (sym v) ∙ receive_silent s.role s.params s.running s.answering s.silent took.new.receiver s.next s.clocks took.new.clocks m payload took.result c.args.acked c.if-acked.false took.ensures.exact took.ensures.others;
+      step = ap
+          (λ x. fragment_taken x (in_key x.role c.args.acked) m payload
+          (found (in_key x.role c.args.acked) x.receivers)) (sym v)
+          ∙ receive_silent s.role s.params s.running s.answering s.silent took.new.receiver s.next
+          s.clocks took.new.clocks m payload took.result c.args.acked c.if-acked.false
+          took.ensures.exact took.ensures.others;
       role = ap (λ x. x.role) v;
       params = ap (λ x. x.params) v;
     }

@@ -8,9 +8,14 @@ pub returns-in-Ok : goal.returns-in-Ok
 returns-in-Ok c =
     let params = c.args.params.now in
     let bytes = c.args.bytes.now in
-    let read = read_is params side.Fragments bytes c.read.result c.read.ensures.spells c.read.ensures.fault in
+    let read =
+    read_is params side.Fragments bytes c.read.result c.read.ensures.spells c.read.ensures.fault
+    in
     record {
-      step = fragment_ok c.args.self.now (c.receive.new.self, c.receive.result) c.args.port params c.requires.0 c.is_answered.result bytes c.in-Ok.message c.read.result c.requires.1 (c.is_answered.ensures c.requires.0 (ap (λ way. way.0) c.requires.1)) read c.in-Ok.is c.receive.ensures.step;
+      step = fragment_ok c.args.self.now (c.receive.new.self, c.receive.result) c.args.port params
+          c.requires.0 c.is_answered.result bytes c.in-Ok.message c.read.result c.requires.1
+          (c.is_answered.ensures c.requires.0 (ap (λ way. way.0) c.requires.1)) read c.in-Ok.is
+          c.receive.ensures.step;
       role = c.receive.ensures.role;
       params = c.receive.ensures.params;
     }
@@ -19,5 +24,13 @@ pub returns-in-Err : goal.returns-in-Err
 returns-in-Err c =
     let params = c.args.params.now in
     let bytes = c.args.bytes.now in
-    let read = read_is params side.Fragments bytes c.read.result c.read.ensures.spells c.read.ensures.fault in
-    record { step = fragment_err c.args.self.now c.args.port params bytes c.in-Err.fault c.read.result read c.in-Err.is; role = refl; params = refl }
+    let read =
+    read_is params side.Fragments bytes c.read.result c.read.ensures.spells c.read.ensures.fault
+    in
+    record {
+      step =
+          fragment_err c.args.self.now c.args.port params bytes c.in-Err.fault c.read.result read
+          c.in-Err.is;
+      role = refl;
+      params = refl;
+    }

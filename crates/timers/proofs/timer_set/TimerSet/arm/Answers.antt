@@ -4,4 +4,5 @@ use Rattle.timers.proofs.timer_set.TimerSet.arm.Goals as goal
 
 pub returns-clause-armed : goal.returns-clause-armed
 returns-clause-armed c =
-    left-armed c.self.inside.now c.args.key c.args.ticks c.self.inside.deadlines.items ∙ ap (λ timers. slice_set timers c.args.key (Some c.args.ticks)) c.self.view_is
+    left-armed c.self.inside.now c.args.key c.args.ticks c.self.inside.deadlines.items
+    ∙ ap (λ timers. slice_set timers c.args.key (Some c.args.ticks)) c.self.view_is
