@@ -1,5 +1,6 @@
 -- The numbers of the tiles to send, kept as a bitmap of each window: what the sender's fields mean.
-use Rattle.std.specs.Prelude.{ℕ, ◌-◌, ◌%◌, ◌==◌, ◌&&◌, not, nat_lt, false, List, [], ◌∷◌, ◌++◌, Bool, drop, get_or, Option, Some, None}
+use Rattle.std.specs.Prelude.{ℕ, ◌-◌, ◌%◌, ◌==◌, ◌&&◌, not, nat_lt, false, List, [], ◌∷◌, ◌++◌}
+use Rattle.std.specs.Prelude.{Bool, drop, get_or, Option, Some, None}
 use Rattle.schc_bits.specs.Bits.{number_bits}
 use Rattle.tiles_bitmap.specs.Places.{missing, run}
 use Rattle.aoe_sender.specs.Tiles.{window_size}
@@ -24,4 +25,5 @@ first_run most (number ∷ numbers) =
 -- the number is below `end`, isn't the first of its window, and its bit is 0
 unfoldable pub follows : List ℕ → ℕ → ℕ → Bool
 follows words end number =
-    nat_lt number end && not (number % window_size == 0) && not (get_or (windows_bits words) number false)
+    nat_lt number end && not (number % window_size == 0) && not
+    (get_or (windows_bits words) number false)

@@ -1,4 +1,5 @@
--- RFC 8724, sections 8.2.2.1 and 8.2.3, and RFC 9011, section 5.6.2: which tiles the sender has, and in which messages they go.
+-- RFC 8724, sections 8.2.2.1 and 8.2.3, and RFC 9011, section 5.6.2: which tiles the sender has,
+-- and in which messages they go.
 use Rattle.std.specs.Prelude.{ℕ, ◌-◌, ◌/◌, List, Bool, length, take, drop}
 use Rattle.schc_bits.specs.Bits.{padded}
 use Rattle.schc_ids.specs.declared.ends.LastTile.{LastTile}
@@ -11,7 +12,8 @@ use Rattle.aoe_sender.specs.State.{AoeSenderData}
 abbrev pub window_size : ℕ
 window_size = 63
 
--- the SCHC packet, and the zero bits that pad the fragment of its last tile: in this mode the header and all other tiles are
+-- the SCHC packet, and the zero bits that pad the fragment of its last tile: in this mode the
+-- header and all other tiles are
 -- whole bytes
 unfoldable pub padded_packet : AoeSenderData → List Bool
 padded_packet s = padded s.bits
@@ -20,7 +22,8 @@ padded_packet s = padded s.bits
 unfoldable pub all_tiles : AoeSenderData → List (List Bool)
 all_tiles s = tiles s.params s.mtu (padded_packet s)
 
--- how many of so many tiles go in Regulars: the last one goes in the All-1 or in a Regular (RFC 8724, section 8.4.3)
+-- how many of so many tiles go in Regulars: the last one goes in the All-1 or in a Regular (RFC
+-- 8724, section 8.4.3)
 abbrev pub in_regulars : LastTile → ℕ → ℕ
 in_regulars InAll1 count = count - 1
 in_regulars InRegular count = count

@@ -1,6 +1,6 @@
 //! The sender.
 
-ghost use Rattle.std.specs.Prelude.{ℕ, ◌≡◌, ◌+◌, ◌-◌, ◌*◌, ◌/◌, ◌^◌, ◌==◌, ◌<◌, ◌≤◌, nat_lt, [], length, take, drop, IfOk, IfErr, OnOk, OnErr, IfSome, IsSome, option_map};
+ghost use Rattle.std.specs.Prelude.{ℕ, ◌≡◌, ◌+◌, ◌-◌, ◌*◌, ◌/◌, ◌^◌, ◌==◌, ◌<◌, ◌≤◌, nat_lt, [], length, take, drop, IfOk, IfErr, IsOk, OnOk, OnErr, IfSome, IsSome, option_map};
 ghost use Rattle.schc_ids.specs.declared.fragments.FragMode.TheVariants.{AckOnError};
 ghost use Rattle.schc_ids.specs.Fragments.{params_of};
 ghost use Rattle.schc_ids.specs.Limits.{IsMtu, min_cut_bits, max_session_bits};
@@ -67,7 +67,7 @@ impl AoeSender {
     /// the last one goes in the All-1 or in a Regular.
     ///
     /// # Errors
-    /// Want of memory; the bits come back.
+    /// None arises, since nothing is allocated; the bits would come back.
     pub fn begin(
         _alloc: Global,
         params: FragParams,
@@ -82,6 +82,7 @@ impl AoeSender {
         ensures begun { IfOk result (λ sender. sender ≡ begun params mtu last bits) }
         ensures sound { IfOk result (λ sender. IsAoeSender sender) }
         ensures back { IfErr result (λ back. back ≡ bits) }
+        ensures always { IsOk result }
     {
         let numbers = ToSend::all(tiles_in_regulars(last, bits.len()));
         Ok(AoeSender {

@@ -17,7 +17,9 @@ returns-clause-exact c =
     ∙ sym (regular_count-is _ (has-tiles _ c.self.invariant))
     in
     let e =
-    all1-written _ c.last_window.result c.rcs.result c.tiles_in_regulars-count.result c.in_ok-payload.payload c.self.invariant window c.rcs.ensures count c.in_ok-payload.ensures.part
+    all1-written _ c.last_window.result c.rcs.result c.tiles_in_regulars-count.result
+    c.in_ok-payload.payload c.self.invariant window c.rcs.ensures count
+    c.in_ok-payload.ensures.part
     ∙ ap (λ s. written s.params (all1 s).0 (all1 s).1) c.self.view_is
     in
     IfOk-weaker c.write.result _ _ (λ bytes is. is ∙ e) c.write.ensures.exact

@@ -17,7 +17,8 @@ asked_last-requires c =
     ∙ ap regular_count c.self.view_is
     in
     subst (λ ns. IsStateOf (regular_count c.args.self.now) (Sending ns 0))
-    (sym (missing-is c.args.self.now c.args.w c.args.bitmap c.tiles_in_regulars.result c.missing-numbers.result count c.missing-numbers.ensures))
+    (sym (missing-is c.args.self.now c.args.w c.args.bitmap c.tiles_in_regulars.result
+    c.missing-numbers.result count c.missing-numbers.ensures))
     (missing-state c.args.self.now c.args.w (number_bits 63 c.args.bitmap))
 
 pub send_again-requires : goal.send_again-requires
@@ -29,7 +30,8 @@ send_again-requires c =
     ∙ ap regular_count c.self.view_is
     in
     subst (λ ns. IsStateOf (regular_count c.args.self.now) (Sending ns 0))
-    (sym (missing-is c.args.self.now c.args.w c.args.bitmap c.tiles_in_regulars.result c.missing-numbers.result count c.missing-numbers.ensures))
+    (sym (missing-is c.args.self.now c.args.w c.args.bitmap c.tiles_in_regulars.result
+    c.missing-numbers.result count c.missing-numbers.ensures))
     (missing-state c.args.self.now c.args.w (number_bits 63 c.args.bitmap))
 
 pub returns-then-w-last-2-clause-step : goal.returns-then-w-last-2-clause-step
@@ -40,8 +42,10 @@ returns-then-w-last-2-clause-step c =
     ∙ sym (regular_count-is _ (has-tiles _ c.self.invariant))
     ∙ ap regular_count c.self.view_is
     in
-    asked-at-last c.args.self.now c.args.w (number_bits 63 c.args.bitmap) c.missing-numbers.result (c.if-w-last-2.true ∙ c.last_window-last.ensures.value)
-    (missing-is c.args.self.now c.args.w c.args.bitmap c.tiles_in_regulars.result c.missing-numbers.result count c.missing-numbers.ensures)
+    asked-at-last c.args.self.now c.args.w (number_bits 63 c.args.bitmap) c.missing-numbers.result
+    (c.if-w-last-2.true ∙ c.last_window-last.ensures.value)
+    (missing-is c.args.self.now c.args.w c.args.bitmap c.tiles_in_regulars.result
+    c.missing-numbers.result count c.missing-numbers.ensures)
     ∙ c.asked_last.ensures.step
 
 pub returns-else-w-last-2-clause-step : goal.returns-else-w-last-2-clause-step
@@ -52,7 +56,9 @@ returns-else-w-last-2-clause-step c =
     ∙ sym (regular_count-is _ (has-tiles _ c.self.invariant))
     ∙ ap regular_count c.self.view_is
     in
-    let low : c.args.w < last_window c.args.self.now = omega (arith, c.if-w-last.false, c.if-w-last-2.false, c.last_window-last.ensures.value) in
+    let low : c.args.w < last_window c.args.self.now =
+    omega (arith, c.if-w-last.false, c.if-w-last-2.false, c.last_window-last.ensures.value) in
     asked-below c.args.self.now c.args.w (number_bits 63 c.args.bitmap) c.missing-numbers.result low
-    (missing-is c.args.self.now c.args.w c.args.bitmap c.tiles_in_regulars.result c.missing-numbers.result count c.missing-numbers.ensures)
+    (missing-is c.args.self.now c.args.w c.args.bitmap c.tiles_in_regulars.result
+    c.missing-numbers.result count c.missing-numbers.ensures)
     ∙ c.send_again.ensures.step
