@@ -1,5 +1,7 @@
 -- From a clean start, plain rounds carry a packet: whole, or as a session.
-use Rattle.std.proofs.Common.{◌≡◌, ℕ, zero, suc, ◌+◌, ◌≤◌, Bool, true, false, not, if◌then◌else◌, List, [], ◌∷◌, ◌++◌, length, drop, Option, Some, None, Ok, slice_get, refl, ap, subst, sym, ◌∙◌, arith}
+use Rattle.std.proofs.Common.{◌≡◌, ℕ, zero, suc, ◌+◌, ◌≤◌, Bool, true, false, not, if◌then◌else◌}
+use Rattle.std.proofs.Common.{List, [], ◌∷◌, ◌++◌, length, drop, Option, Some, None, Ok, slice_get}
+use Rattle.std.proofs.Common.{refl, ap, subst, sym, ◌∙◌, arith}
 use Rattle.std.proofs.lemmas.List.{append-nil}
 use Rattle.schc_bits.specs.Bits.{AreBytes}
 use Rattle.schc_bits.proofs.ListLemmas.{all-at_place}
@@ -37,17 +39,23 @@ use Rattle.lanes.specs.Lane.{padded_of}
 use Rattle.lanes.proofs.RoundLemmas.{empty-new}
 use Rattle.tiles_bitmap.specs.Tiles.{tiles}
 use Rattle.end_core.specs.Data.{EndData, fits}
-use Rattle.end_core.specs.End.{form_of, refusal, accepted, with_form, down_from, down_step, frame_of, without_first, carried, up_of, take_step, queue_turn, turn_from}
+use Rattle.end_core.specs.End.{form_of, refusal, accepted, with_form, down_from, down_step}
+use Rattle.end_core.specs.End.{frame_of, without_first, carried, up_of, take_step, queue_turn}
+use Rattle.end_core.specs.End.{turn_from}
 use Rattle.end_core.specs.Events as at_end
 use Rattle.end_core.specs.EndStep.{end_step}
 use Rattle.end_core.proofs.FrameLemmas.{frame_padding, length-frame_padding, carried-frame_of}
 use Rattle.end_core.proofs.ReadBackLemmas.{packed-whole, packed-known, reads-bits}
 use Rattle.end_core.proofs.StepLemmas.{refusal-none}
 use Rattle.end_core.proofs.TakenLemmas.{taken-reads}
-use Rattle.two_ends.specs.Clean.{IsClean, ReaderKnows, needed_rounds, BringsUp, IsReported, WentAs, IsCarried, Arrives, key_of_end, goes_whole, tile_count, slot_delivered, plain_round, plain_rounds}
+use Rattle.two_ends.specs.Clean.{IsClean, ReaderKnows, needed_rounds, BringsUp, IsReported, WentAs}
+use Rattle.two_ends.specs.Clean.{IsCarried, Arrives, key_of_end, goes_whole, tile_count}
+use Rattle.two_ends.specs.Clean.{slot_delivered, plain_round, plain_rounds}
 use Rattle.two_ends.specs.Fits.{Fits}
 use Rattle.two_ends.specs.Happening.{Carries, given_by, Waits, waits_if, comes_if, happening_in}
-use Rattle.two_ends.specs.History.{History, reception_at, ups_after, downs_after, begins_after, reports_after, queued_after, marks_given, begins_given, reports_given, start, after, next, run}
+use Rattle.two_ends.specs.History.{History, reception_at, ups_after, downs_after, begins_after}
+use Rattle.two_ends.specs.History.{reports_after, queued_after, marks_given, begins_given}
+use Rattle.two_ends.specs.History.{reports_given, start, after, next, run}
 use Rattle.two_ends.specs.Keys.{Key, sent_key, mode_of, lane_params}
 use Rattle.two_ends.specs.Labels as label
 use Rattle.two_ends.specs.Labels.{Label, Mark, WholeFrame, first_place}
@@ -57,16 +65,19 @@ use Rattle.two_ends.specs.World.{WorldData, with_end, end_of, answered, end_even
 use Rattle.two_ends.proofs.ComesLemmas.{IsDelivered, slot-comes}
 use Rattle.two_ends.proofs.EndsKept.{EndKeeps, form-is}
 use Rattle.two_ends.proofs.GivenLemmas.{given_step}
-use Rattle.two_ends.proofs.KeepsLemmas.{world-step, IsPaddedBy, padding-of, run-start-keeps, bytes-of-fits}
+use Rattle.two_ends.proofs.KeepsLemmas.{world-step, IsPaddedBy, padding-of, run-start-keeps}
+use Rattle.two_ends.proofs.KeepsLemmas.{bytes-of-fits}
 use Rattle.two_ends.proofs.LaneSlots.{slotted}
 use Rattle.two_ends.proofs.LaneSteps.{WorldKeeps, whole-sessions}
 use Rattle.two_ends.proofs.LaneTakes.{reception-is}
 use Rattle.two_ends.proofs.LedLemmas.{led-none, slice_get-last}
 use Rattle.two_ends.proofs.MarksKept.{IsLinkKey, own-link}
 use Rattle.two_ends.proofs.ModeLemmas.{world-mode}
-use Rattle.two_ends.proofs.PerLemmas.{put_role-at_role, put_role-put_role, taker-sent, at_role-put_role-taker}
+use Rattle.two_ends.proofs.PerLemmas.{put_role-at_role, put_role-put_role, taker-sent}
+use Rattle.two_ends.proofs.PerLemmas.{at_role-put_role-taker}
 use Rattle.two_ends.proofs.QueuesKept.{IsFormOf}
-use Rattle.two_ends.proofs.RestLemmas.{gives_of, IsRested, due-rested, rested-due, still, delivered-still, rounds-still}
+use Rattle.two_ends.proofs.RestLemmas.{gives_of, IsRested, due-rested, rested-due, still}
+use Rattle.two_ends.proofs.RestLemmas.{delivered-still, rounds-still}
 use Rattle.two_ends.proofs.SessionsKept.{AreSessions, in-is}
 use Rattle.two_ends.proofs.TalkBeginsLemmas.{IsAlone, first_began, session-over}
 use Rattle.two_ends.proofs.TalkEndLemmas.{NoAnswers, rest_of, no-answer, rested-silent, Listens}
@@ -253,7 +264,8 @@ record IsHeld (params : EndParams) (w : History) (role : Role) (form : Packed) (
 held-brought : (params : EndParams) (w : History) (role : Role) (form : Packed) (place : ℕ)
     (up : HandUpData) → IsHeld params w role form place up →
     IsBrought w role up place (slot_delivered w role)
-unfolding after given_world given_step marks_given begins_given reports_given ups_after downs_after begins_after reports_after comes_if
+unfolding after given_world given_step marks_given begins_given reports_given ups_after downs_after
+    begins_after reports_after comes_if
 held-brought params w role form place up held =
     subst (IsBrought w role up place) (sym d.same)
     (record {

@@ -1,5 +1,6 @@
 -- A slot of an end whose frame is delivered: what comes to the other end.
-use Rattle.std.proofs.Common.{◌≡◌, ℕ, ◌+◌, true, false, List, [], ◌∷◌, ◌++◌, length, Option, Some, option_map, Ok, refl, sym, ap, subst, ◌∙◌, add-one}
+use Rattle.std.proofs.Common.{◌≡◌, ℕ, ◌+◌, true, false, List, [], ◌∷◌, ◌++◌, length, Option, Some}
+use Rattle.std.proofs.Common.{option_map, Ok, refl, sym, ap, subst, ◌∙◌, add-one}
 use Rattle.std.proofs.lemmas.List.{length-map}
 use Rattle.schc_ids.specs.Ends.{sent_direction, taken_direction}
 use Rattle.schc_ids.specs.PerDirection.{at_direction}
@@ -17,11 +18,14 @@ use Rattle.end_core.specs.Data.{EndData}
 use Rattle.end_core.specs.End.{turn, slot_step}
 use Rattle.end_core.specs.EndStep.{end_step}
 use Rattle.two_ends.specs.Clean.{outcome, delivered, slot_delivered}
-use Rattle.two_ends.specs.Happening.{Given, Answers, Goes, Opens, Carries, NoFrame, Fragment, Answer, message_comes, comes_if, happening_in}
+use Rattle.two_ends.specs.Happening.{Given, Answers, Goes, Opens, Carries, NoFrame, Fragment}
+use Rattle.two_ends.specs.Happening.{Answer, message_comes, comes_if, happening_in}
 use Rattle.two_ends.specs.History.{History, sent_after, marks_given, after, next}
 use Rattle.two_ends.specs.Keys.{sent_key, taken_key, same_way}
 use Rattle.two_ends.specs.Labels.{Mark, MessageOf, marked_frame}
-use Rattle.two_ends.specs.World.{with_end, end_of, taker, frames_of, numbered, emission, sent_after as frames_after, answered, end_event, deliver_step, step}
+use Rattle.two_ends.specs.World.{with_end, end_of, taker, frames_of, numbered, emission}
+use Rattle.two_ends.specs.World.{sent_after as frames_after, answered, end_event, deliver_step}
+use Rattle.two_ends.specs.World.{step}
 use Rattle.two_ends.proofs.GivenLemmas.{given_step, turn-gives}
 use Rattle.two_ends.proofs.KeepsLemmas.{world-step}
 use Rattle.two_ends.proofs.LaneSlots.{slotted}

@@ -20,5 +20,9 @@ pub always-safe : (params : EndParams) (events : List Event) → AlwaysSafe para
 always-safe = always-of joins-padded arrived
 
 -- and after each of any events that hand down bytes, where the parameters are within their limits
-pub headline-of-bytes : (params : EndParams) (events : List Event) → IsParams params → AllByRecursion HandsBytes events → (n : ℕ) → IsHeadline params (take n events) (run (take n events) (start params))
-headline-of-bytes params events range bytes n = headline-of joins-padded arrived params (take n events) range (all-take HandsBytes n events bytes)
+pub headline-of-bytes : (params : EndParams) (events : List Event) → IsParams params
+    → AllByRecursion HandsBytes events → (n : ℕ)
+    → IsHeadline params (take n events) (run (take n events) (start params))
+headline-of-bytes params events range bytes n =
+    headline-of joins-padded arrived params (take n events) range
+    (all-take HandsBytes n events bytes)

@@ -1,7 +1,8 @@
 -- The receiver of a key has the key's mode: so it is on a lane, and in every world that events lead
 -- to.
 use Rattle.std.specs.List.{AllByRecursion}
-use Rattle.std.proofs.Common.{◌≡◌, ℕ, List, Option, Some, None, Result, Ok, Err, refl, sym, subst, ◌∙◌}
+use Rattle.std.proofs.Common.{◌≡◌, ℕ, List, Option, Some, None, Result, Ok, Err, refl, sym, subst}
+use Rattle.std.proofs.Common.{◌∙◌}
 use Rattle.schc_bits.specs.Bits.{octets}
 use Rattle.schc_ids.specs.Params.{IsParams}
 use Rattle.schc_ids.specs.declared.ends.EndParams.{EndParams}
@@ -13,16 +14,19 @@ use Rattle.frag_wire.specs.Layouts.{payload_in}
 use Rattle.frag_wire.specs.Spells.{reading_in}
 use Rattle.frag_wire.specs.declared.message.Message.{Message}
 use Rattle.event_data.specs.Events.{Event, HandsBytes}
-use Rattle.sessions.specs.Receivers.{new_receiver, receiver_mode, receiver_idled, receiver_lapsed, receiver_due, receiver_answered}
+use Rattle.sessions.specs.Receivers.{new_receiver, receiver_mode, receiver_idled, receiver_lapsed}
+use Rattle.sessions.specs.Receivers.{receiver_due, receiver_answered}
 use Rattle.sessions.specs.Reception.{reception_taken, reception_answered}
 use Rattle.sessions.specs.Senders.{sender_due}
 use Rattle.sessions.specs.Session.{Session}
 use Rattle.sessions.specs.declared.receivers.Receiver.{Receiver}
 use Rattle.sessions.specs.declared.receivers.Receiver.TheVariants.{NoAck, AckAlways, AckOnError}
-use Rattle.lanes.specs.Events.{LaneEvent, Begin, Send, Answer, Fragment, Ack, SenderTick, ReceiverTick, Abort, Possible}
+use Rattle.lanes.specs.Events.{LaneEvent, Begin, Send, Answer, Fragment, Ack, SenderTick}
+use Rattle.lanes.specs.Events.{ReceiverTick, Abort, Possible}
 use Rattle.lanes.specs.Lane.{Begun, Lane, LaneParams, Msg, new_lane}
 use Rattle.lanes.specs.Runs.{ArePossible, lane_after}
-use Rattle.lanes.specs.Step.{lane_session, lane_sent, lane_sends, lane_begun, lane_begins, lane_told, lane_taken, lane_took, lane_answered, lane_step}
+use Rattle.lanes.specs.Step.{lane_session, lane_sent, lane_sends, lane_begun, lane_begins}
+use Rattle.lanes.specs.Step.{lane_told, lane_taken, lane_took, lane_answered, lane_step}
 use Rattle.lanes.proofs.LeadsLemmas.{taken-mode}
 use Rattle.lanes.proofs.RunLemmas.{IsKept, run-keeps}
 use Rattle.lanes.proofs.TickedLemmas.{OutlastsTimers, ticked-keeps}

@@ -1,6 +1,7 @@
 -- A packet that waits alone, and doesn't go whole, opens a session, and that session ends after at
 -- most one round more than it has tiles.
-use Rattle.std.proofs.Common.{◌≡◌, ℕ, ◌+◌, ◌≤◌, false, List, [], ◌∷◌, ◌++◌, length, drop, Option, Some, None, Ok, slice_get, refl, sym, ap, subst, ◌∙◌, arith}
+use Rattle.std.proofs.Common.{◌≡◌, ℕ, ◌+◌, ◌≤◌, false, List, [], ◌∷◌, ◌++◌, length, drop, Option}
+use Rattle.std.proofs.Common.{Some, None, Ok, slice_get, refl, sym, ap, subst, ◌∙◌, arith}
 use Rattle.schc_ids.specs.Ends.{sent_direction}
 use Rattle.schc_ids.specs.Fragments.{params_of}
 use Rattle.schc_ids.specs.Params.{IsParams}
@@ -19,7 +20,8 @@ use Rattle.sessions.specs.Reception.{Reception}
 use Rattle.sessions.specs.declared.receivers.Receiver.{Receiver}
 use Rattle.sessions.specs.Senders.{sender_due}
 use Rattle.sessions.specs.Session.{Session, session_sent}
-use Rattle.sessions.specs.Steps.{with_session, messages_from, message_choice, busy_in, may_begin, may_begin_in, new_session, next_number}
+use Rattle.sessions.specs.Steps.{with_session, messages_from, message_choice, busy_in, may_begin}
+use Rattle.sessions.specs.Steps.{may_begin_in, new_session, next_number}
 use Rattle.sessions.proofs.KeyLemmas.{put_own}
 use Rattle.lanes.specs.Events.{CanBegin}
 use Rattle.lanes.specs.Lane.{LaneParams, Msg, last_item, place_of, padded_of}
@@ -33,7 +35,8 @@ use Rattle.end_core.specs.Data.{EndData, fits}
 use Rattle.end_core.specs.End.{with_sessions, without_first, up_of, queue_turn, turn_from}
 use Rattle.two_ends.specs.Clean.{plain_rounds}
 use Rattle.two_ends.specs.Happening.{Given, Opens, Fragment, opens_if, begun, given_by}
-use Rattle.two_ends.specs.History.{History, begun_at, marks_given, begins_given, reports_given, ups_after, downs_after, begins_after, reports_after, after}
+use Rattle.two_ends.specs.History.{History, begun_at, marks_given, begins_given, reports_given}
+use Rattle.two_ends.specs.History.{ups_after, downs_after, begins_after, reports_after, after}
 use Rattle.two_ends.specs.Keys.{Key, mode_of, lane_params}
 use Rattle.two_ends.specs.Labels.{MessageOf, first_place}
 use Rattle.two_ends.specs.Logs.{Began, begins_of}
@@ -77,7 +80,8 @@ begins-turn : (end : EndData) (form : Packed) → end.queue ≡ form ∷ [] → 
     opens_if (out_key end.sessions.role end.sessions.params.acked)
     (new_session form.bits end.sessions) form
     (sender_due (new_session form.bits end.sessions).sender)
-unfolding given_by begun turn_from queue_turn message_choice messages_from busy_in may_begin may_begin_in found
+unfolding given_by begun turn_from queue_turn message_choice messages_from busy_in may_begin
+    may_begin_in found
 begins-turn end form waits none unfit = rw (none, waits, unfit) refl
 
 opens-some : (id : SessionKey) (session : Session) (form : Packed) (o : Option (List ℕ))
@@ -149,7 +153,8 @@ first-out : (params : EndParams) (w : History) (role : Role) (known : EditionDat
     IsOut params w role (first_session params w role form) bytes (length w.logs.begins)
     (w.logs.begins ++ first_began params w role form ∷ [])
     (slotted w role (Opens (own_id params role) (first_session params w role form) form bytes))
-unfolding after given_world given_step marks_given begins_given reports_given ups_after downs_after begins_after reports_after
+unfolding after given_world given_step marks_given begins_given reports_given ups_after downs_after
+    begins_after reports_after
 first-out params w role known form r bytes k due =
     record {
       m = m;

@@ -1,6 +1,7 @@
 -- What an end gives at its slot while it sends a session, and while it takes one of the other end.
 use Rattle.std.specs.List.{AllByRecursion}
-use Rattle.std.proofs.Common.{◌≡◌, ℕ, Bool, true, false, not, if◌then◌else◌, List, [], ◌∷◌, Option, Some, None, Result, Ok, Err, slice_get, refl, sym, ap, subst, ◌∙◌}
+use Rattle.std.proofs.Common.{◌≡◌, ℕ, Bool, true, false, not, if◌then◌else◌, List, [], ◌∷◌, Option}
+use Rattle.std.proofs.Common.{Some, None, Result, Ok, Err, slice_get, refl, sym, ap, subst, ◌∙◌}
 use Rattle.schc_bits.specs.Bits.{octets}
 use Rattle.schc_ids.specs.declared.ends.Role.{Role}
 use Rattle.schc_ids.specs.declared.ends.TimerTicks.{TimerTicks}
@@ -15,13 +16,18 @@ use Rattle.sessions.specs.Receivers.{receiver_due}
 use Rattle.sessions.specs.Reception.{Reception, reception_taken}
 use Rattle.sessions.specs.Senders.{sender_due, sender_phase}
 use Rattle.sessions.specs.Session.{Session, session_heard}
-use Rattle.sessions.specs.Steps.{with_session, with_reception, Choice, Idle, GivesAnswer, GivesMessage, answer_or, answers_from, message_if, messages_from, message_choice, choice, fragment_taken, fragment_read, answer_taken, answer_read, busy_in, may_begin, new_session}
+use Rattle.sessions.specs.Steps.{with_session, with_reception, Choice, Idle, GivesAnswer}
+use Rattle.sessions.specs.Steps.{GivesMessage, answer_or, answers_from, message_if, messages_from}
+use Rattle.sessions.specs.Steps.{message_choice, choice, fragment_taken, fragment_read}
+use Rattle.sessions.specs.Steps.{answer_taken, answer_read, busy_in, may_begin, new_session}
 use Rattle.sessions.proofs.KeyLemmas.{found_own, put_own}
 use Rattle.sessions.proofs.PortLemmas.{found_in, put_answering, put_silent}
 use Rattle.lanes.specs.Rounds.{took_reading, heard_reading}
 use Rattle.end_core.specs.Data.{EndData}
-use Rattle.end_core.specs.End.{with_sessions, Turn, Serves, Sends, Begins, Rests, queue_turn, turn_from, turn}
-use Rattle.two_ends.specs.Happening.{Given, Answers, Goes, NoFrame, goes_if, chosen, begun, given_by}
+use Rattle.end_core.specs.End.{with_sessions, Turn, Serves, Sends, Begins, Rests, queue_turn}
+use Rattle.end_core.specs.End.{turn_from, turn}
+use Rattle.two_ends.specs.Happening.{Given, Answers, Goes, NoFrame, goes_if, chosen, begun}
+use Rattle.two_ends.specs.Happening.{given_by}
 use Rattle.two_ends.proofs.RestLemmas.{gives_of}
 
 -- none of the receivers has an answer due

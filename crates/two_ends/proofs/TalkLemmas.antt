@@ -1,6 +1,7 @@
 -- A session of which nothing is lost stays that of its packet, and the message by which its packet
 -- is joined is an All-1.
-use Rattle.std.proofs.Common.{◌≡◌, ℕ, Bool, List, [], ◌∷◌, Option, Some, None, option_map, Result, Ok, Err, refl, sym, ap, subst, ◌∙◌}
+use Rattle.std.proofs.Common.{◌≡◌, ℕ, Bool, List, [], ◌∷◌, Option, Some, None, option_map, Result}
+use Rattle.std.proofs.Common.{Ok, Err, refl, sym, ap, subst, ◌∙◌}
 use Rattle.schc_bits.specs.Bits.{octets}
 use Rattle.schc_ids.specs.declared.ends.TimerTicks.{TimerTicks}
 use Rattle.schc_ids.specs.declared.faults.WireFault.{WireFault}
@@ -23,7 +24,8 @@ use Rattle.aoe_receiver.specs.Steps as aoe_step
 use Rattle.aoe_sender.specs.State.{AoeSenderData, AoeSenderState, Sending, Waiting, Closing, Quiet}
 use Rattle.aoe_sender.specs.Steps as aoe_sends
 use Rattle.aoe_sender.proofs.LawsLemmas.{spells-due}
-use Rattle.sessions.specs.Receivers.{receiver_mode, receiver_taken, receiver_previewed, receiver_due, receiver_answered}
+use Rattle.sessions.specs.Receivers.{receiver_mode, receiver_taken, receiver_previewed}
+use Rattle.sessions.specs.Receivers.{receiver_due, receiver_answered}
 use Rattle.sessions.specs.Reception.{Reception, reception_taken, reception_answered}
 use Rattle.sessions.specs.Senders.{sender_due}
 use Rattle.sessions.specs.Session.{Session, session_moved, session_sent, session_heard}
@@ -32,7 +34,8 @@ use Rattle.sessions.specs.declared.receivers.Receiver.TheVariants as receivers
 use Rattle.sessions.specs.declared.senders.Sender.{Sender}
 use Rattle.sessions.specs.declared.senders.Sender.TheVariants as senders
 use Rattle.lanes.specs.Lane.{LaneParams}
-use Rattle.lanes.specs.Rounds.{Talk, took_reading, joined_reading, heard_reading, talk_sent, talk_answered, talk_round, IsRound}
+use Rattle.lanes.specs.Rounds.{Talk, took_reading, joined_reading, heard_reading, talk_sent}
+use Rattle.lanes.specs.Rounds.{talk_answered, talk_round, IsRound}
 use Rattle.lanes.proofs.SenderLemmas.{IsSenderOf, sent-is, heard-is}
 
 -- the session is that of these bits, and the receiver is one of its mode

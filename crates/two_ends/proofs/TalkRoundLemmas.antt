@@ -1,6 +1,7 @@
 -- A plain round of an end that sends a session is a round of the session and of the receiver of its
 -- key.
-use Rattle.std.proofs.Common.{◌≡◌, ℕ, Bool, List, [], ◌∷◌, ◌++◌, Option, Some, None, option_map, Result, Ok, Err, refl, sym, ap, subst, ◌∙◌}
+use Rattle.std.proofs.Common.{◌≡◌, ℕ, Bool, List, [], ◌∷◌, ◌++◌, Option, Some, None, option_map}
+use Rattle.std.proofs.Common.{Result, Ok, Err, refl, sym, ap, subst, ◌∙◌}
 use Rattle.std.proofs.lemmas.List.{append-nil}
 use Rattle.schc_ids.specs.Ends.{sent_direction, other_direction}
 use Rattle.schc_ids.specs.PerRole.{PerRole, at_role, put_role}
@@ -37,14 +38,17 @@ use Rattle.sessions.specs.Senders.{sender_due, sender_phase}
 use Rattle.sessions.specs.Session.{Session, session_sent, session_heard, heard_kind}
 use Rattle.sessions.specs.Steps.{with_session, with_reception, fragment_read, answer_read}
 use Rattle.lanes.specs.Lane.{Msg}
-use Rattle.lanes.specs.Rounds.{Talk, took_reading, joined_reading, heard_reading, talk_sent, talk_answered}
+use Rattle.lanes.specs.Rounds.{Talk, took_reading, joined_reading, heard_reading, talk_sent}
+use Rattle.lanes.specs.Rounds.{talk_answered}
 use Rattle.lanes.specs.Step.{kind_sent, told, heard_by, checked_label}
 use Rattle.end_core.specs.Data.{EndData}
 use Rattle.end_core.specs.End.{with_sessions, read_bits, assembly_of, up_of, take_step}
 use Rattle.end_core.proofs.TakenLemmas.{HandsUp, taken-up, taken-joins}
 use Rattle.two_ends.specs.Clean.{slot_delivered}
 use Rattle.two_ends.specs.Happening.{Given, Answers, Goes, Fragment, Answer}
-use Rattle.two_ends.specs.History.{History, sender_at, reception_at, came_as, came_read, came, handed, marks_given, begins_given, reports_given, reports_heard, ups_after, downs_after, begins_after, reports_after, after}
+use Rattle.two_ends.specs.History.{History, sender_at, reception_at, came_as, came_read, came}
+use Rattle.two_ends.specs.History.{handed, marks_given, begins_given, reports_given, reports_heard}
+use Rattle.two_ends.specs.History.{ups_after, downs_after, begins_after, reports_after, after}
 use Rattle.two_ends.specs.Keys.{Key, sent_key, taken_key, keyed, mode_of}
 use Rattle.two_ends.specs.Labels as label
 use Rattle.two_ends.specs.Labels.{Mark, MessageOf, marked_frame, Held, held_by}
@@ -62,7 +66,9 @@ use Rattle.two_ends.proofs.PortLemmas.{fragments-port, link-received, previewed_
 use Rattle.two_ends.proofs.RestLemmas.{slot-still, delivered-still}
 use Rattle.two_ends.proofs.SessionsKept.{AreSessions}
 use Rattle.two_ends.proofs.TalkLemmas.{ReadsAll1}
-use Rattle.two_ends.proofs.TalkEndLemmas.{Speaks, Listens, listens-found, gives-message, speaks-sent, speaks-heard, gives-answer, gives-rest, listens-put, listens-took}
+use Rattle.two_ends.proofs.TalkEndLemmas.{Speaks, Listens, listens-found, gives-message}
+use Rattle.two_ends.proofs.TalkEndLemmas.{speaks-sent, speaks-heard, gives-answer, gives-rest}
+use Rattle.two_ends.proofs.TalkEndLemmas.{listens-put, listens-took}
 use Rattle.two_ends.proofs.UpsKept.{read-is, other-taker, answer-up}
 use Rattle.two_ends.proofs.WorldLemmas.{given_world}
 
@@ -128,7 +134,8 @@ pub goes-out : (params : EndParams) (h : History) (role : Role) (known : Edition
     sender_phase t.session.sender ≡ phase.Sending → sender_due t.session.sender ≡ Some bytes →
     IsOut params h role t.session bytes place h.logs.begins
     (slotted h role (Goes (own_id params role) t.session bytes))
-unfolding after given_world given_step marks_given begins_given reports_given ups_after downs_after begins_after reports_after
+unfolding after given_world given_step marks_given begins_given reports_given ups_after downs_after
+    begins_after reports_after
 goes-out params h role known place t bytes k sending due =
     record {
       m = m;
@@ -365,7 +372,8 @@ pub due-answered : (params : EndParams) (f : History) (role : Role) (known : Edi
     IsAnswered params f role known place h.1
     (record { session = h.0; reception = reception_answered t.reception })
     (slot_delivered f (reader role))
-unfolding after given_world given_step marks_given begins_given reports_given ups_after downs_after begins_after reports_after
+unfolding after given_world given_step marks_given begins_given reports_given ups_after downs_after
+    begins_after reports_after
 due-answered params f role known place t bytes k due =
     subst (IsAnswered params f role known place h.1
     (record { session = h.0; reception = reception_answered t.reception })) (sym comes)

@@ -1,6 +1,7 @@
 -- Plain rounds carry a session to its end: its packet is handed up once, and how it ended is
 -- reported.
-use Rattle.std.proofs.Common.{◌≡◌, ℕ, zero, suc, ◌≤◌, Bool, List, [], ◌∷◌, ◌++◌, Option, Some, None, Ok, refl, sym, ap, subst, ◌∙◌, arith}
+use Rattle.std.proofs.Common.{◌≡◌, ℕ, zero, suc, ◌≤◌, Bool, List, [], ◌∷◌, ◌++◌, Option, Some, None}
+use Rattle.std.proofs.Common.{Ok, refl, sym, ap, subst, ◌∙◌, arith}
 use Rattle.std.proofs.lemmas.List.{append-nil}
 use Rattle.schc_ids.specs.Ends.{sent_direction, other_role}
 use Rattle.schc_ids.specs.declared.ends.EndParams.{EndParams}
@@ -20,7 +21,8 @@ use Rattle.event_data.specs.Records.{HandUpData}
 use Rattle.sessions.specs.Receivers.{receiver_due}
 use Rattle.sessions.specs.Senders.{sender_due, sender_phase}
 use Rattle.lanes.specs.Lane.{LaneReport}
-use Rattle.lanes.specs.Rounds.{Talk, joined_reading, talk_sent, talk_answered, talk_round, IsRound, last_sent, last_told, IsLastRound, Ends}
+use Rattle.lanes.specs.Rounds.{Talk, joined_reading, talk_sent, talk_answered, talk_round, IsRound}
+use Rattle.lanes.specs.Rounds.{last_sent, last_told, IsLastRound, Ends}
 use Rattle.lanes.specs.Step.{kind_sent, told}
 use Rattle.end_core.specs.End.{up_of}
 use Rattle.two_ends.specs.Clean.{slot_delivered, plain_round, plain_rounds, good_end}
@@ -35,7 +37,9 @@ use Rattle.two_ends.proofs.PortLemmas.{mode-params}
 use Rattle.two_ends.proofs.RestLemmas.{gives_of, IsRested, rounds-still}
 use Rattle.two_ends.proofs.TalkEndLemmas.{Listens, gives-nothing, gives-rest}
 use Rattle.two_ends.proofs.TalkLemmas.{IsTalkOf, round-of, ReadsAll1, joins-all1}
-use Rattle.two_ends.proofs.TalkRoundLemmas.{own_id, own_lane, reader, IsOut, IsTalking, goes-out, IsTaken, ups_of, out-taken, IsAnswered, answered, joins-nothing, joins-packet}
+use Rattle.two_ends.proofs.TalkRoundLemmas.{own_id, own_lane, reader, IsOut, IsTalking, goes-out}
+use Rattle.two_ends.proofs.TalkRoundLemmas.{IsTaken, ups_of, out-taken, IsAnswered, answered}
+use Rattle.two_ends.proofs.TalkRoundLemmas.{joins-nothing, joins-packet}
 
 -- The end is to give the next message of the session, or the first one: these sessions have begun
 -- then.

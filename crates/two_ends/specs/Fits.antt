@@ -1,4 +1,5 @@
--- The ranges in which the laws speak: each number and byte is one of its type, where of the rules of a publication nothing
+-- The ranges in which the laws speak: each number and byte is one of its type, where of the rules
+-- of a publication nothing
 -- is asked, and the parameters are within their limits.
 use Rattle.std.specs.Prelude.{◌^◌, ◌<◌, List}
 use Rattle.std.specs.List.{AllByRecursion}
@@ -12,7 +13,8 @@ use Rattle.event_data.specs.Events.{Event, Down, Slot, Deliver, Tick, Abort, Pub
 abbrev pub FitsParams : EndParams → Type 0
 FitsParams params = IsParams params × (params.iids.dev < 2 ^ 64) × (params.iids.app < 2 ^ 64)
 
--- an event whose numbers and bytes are in the ranges of their types; of a publication only the edition's number is asked
+-- an event whose numbers and bytes are in the ranges of their types; of a publication only the
+-- edition's number is asked
 abbrev pub FitsEvent : Event → Type 0
 FitsEvent (Down role packet) = AreBytes packet
 FitsEvent (Slot role) = Unit {0}

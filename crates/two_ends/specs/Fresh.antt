@@ -1,4 +1,5 @@
--- Runs in which sessions don't meet what is left of earlier ones, runs in which a check tells right from wrong, and what a report
+-- Runs in which sessions don't meet what is left of earlier ones, runs in which a check tells right
+-- from wrong, and what a report
 -- of delivery says then.
 use Rattle.std.specs.Prelude.{◌≡◌, ◌<◌, Bool, List, Some}
 use Rattle.std.specs.List.{AllByRecursion}
@@ -18,17 +19,21 @@ use Rattle.two_ends.specs.Logs.{Began}
 abbrev pub padded_session : EndParams → Began → List Bool
 padded_session params began = padded_of (lane_params params began.key) began.it.bits
 
--- no assembly over which a check was made has the RCS of the session of the All-1 without being that session's padded packet
+-- no assembly over which a check was made has the RCS of the session of the All-1 without being
+-- that session's padded packet
 abbrev pub IsHonest : EndParams → History → Type 0
 IsHonest params h =
     (check : Keyed Check) (began : Began) → Among check h.logs.checks → Among began h.logs.begins →
     check.key ≡ began.key → check.it.session ≡ Some began.it.place →
-    rcs_of check.it.assembly ≡ rcs_of (padded_session params began) → check.it.assembly ≡ padded_session params began
+    rcs_of check.it.assembly ≡ rcs_of (padded_session params began)
+    → check.it.assembly ≡ padded_session params began
 
--- for each key: a fragment or an ACK is delivered only while no later session of the key has begun, and where a session begins,
+-- for each key: a fragment or an ACK is delivered only while no later session of the key has begun,
+-- and where a session begins,
 -- the receiver of its key is empty, so that no answer is due
 abbrev pub IsFresh : EndParams → List Event → Type 0
-IsFresh params events = (key : Key) → AreFresh (lane_params params key) (lane_run key (start params) events)
+IsFresh params events = (key : Key)
+    → AreFresh (lane_params params key) (lane_run key (start params) events)
 
 -- an earlier check of the session passed, over its padded packet
 pub record IsArrived (params : EndParams) (h : History) (report : Keyed LaneReport) : Type 0 where
@@ -45,4 +50,5 @@ pub record IsArrived (params : EndParams) (h : History) (report : Keyed LaneRepo
 
 -- each session that was reported delivered was put together before, and as it was
 abbrev pub IsEarned : EndParams → History → Type 0
-IsEarned params h = AllByRecursion (λ report. report.it.kind ≡ Delivered → IsArrived params h report) h.logs.reports
+IsEarned params h =
+    AllByRecursion (λ report. report.it.kind ≡ Delivered → IsArrived params h report) h.logs.reports

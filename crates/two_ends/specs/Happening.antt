@@ -1,4 +1,5 @@
--- What an event is in a history: each look-up of it is made here, once, so that each log is a plain case on this.
+-- What an event is in a history: each look-up of it is made here, once, so that each log is a plain
+-- case on this.
 use Rattle.std.specs.Prelude.{ℕ, Bool, true, false, List, Option, Some, None, Result, Ok, Err}
 use Rattle.schc_ids.specs.PerDirection.{at_direction}
 use Rattle.schc_ids.specs.declared.ends.Direction.{Direction}
@@ -22,7 +23,8 @@ use Rattle.two_ends.specs.Keys.{Key, same_way}
 use Rattle.two_ends.specs.Labels.{Labels, Mark, WholeFrame, MessageOf}
 use Rattle.two_ends.specs.World.{WorldData, end_of, numbered}
 
--- What an end gives at its slot: the answer of a receiver, the message of a session, the first message of a session that begins
+-- What an end gives at its slot: the answer of a receiver, the message of a session, the first
+-- message of a session that begins
 -- with a packet, the packet whole, or nothing. A session is as it was before the message.
 pub data Given : Type 0 where
   Answers : SessionKey → Reception → List ℕ → Given
@@ -55,8 +57,10 @@ given_by end (Sends form) = Carries form
 given_by end (Begins form) = begun end.sessions form
 given_by end Rests = NoFrame
 
--- a packet was handed down and taken; an end has given this at its slot; a frame arrives that carries whole the packet of this
--- place, or a fragment arrives at the receiver of its key, or an answer at the sender; a tick passes; an end gives up the session
+-- a packet was handed down and taken; an end has given this at its slot; a frame arrives that
+-- carries whole the packet of this
+-- place, or a fragment arrives at the receiver of its key, or an answer at the sender; a tick
+-- passes; an end gives up the session
 -- that it sends by this key. All else is nothing to the logs
 pub data Happening : Type 0 where
   Nothing : Happening
@@ -72,7 +76,8 @@ unfoldable pub waits_if : Role → List ℕ → Result Accepted DownFault → Ha
 waits_if role packet (Ok accepted) = Waits role packet accepted
 waits_if role packet (Err fault) = Nothing
 
--- a message of a key is a fragment where it goes the way of its key's fragments, else it is an answer
+-- a message of a key is a fragment where it goes the way of its key's fragments, else it is an
+-- answer
 unfoldable pub message_comes : Key → Msg → Bool → Happening
 message_comes key m true = Fragment key m
 message_comes key m false = Answer key m
@@ -90,7 +95,8 @@ own_key end = out_key end.role end.params.acked
 unfoldable pub happening_in : WorldData → Labels → Event → Happening
 happening_in w labels (Down role packet) = waits_if role packet (down_step (end_of w role) packet).1
 happening_in w labels (Slot role) = Gives role (given_by (end_of w role) (turn (end_of w role)))
-happening_in w labels (Deliver direction number) = comes_if direction (numbered (at_direction labels.sent direction) number)
+happening_in w labels (Deliver direction number) =
+    comes_if direction (numbered (at_direction labels.sent direction) number)
 happening_in w labels (Tick target) = Ticks target
 happening_in w labels (Abort role) = GivesUp role (own_key (end_of w role))
 happening_in w labels (Publish raw) = Nothing

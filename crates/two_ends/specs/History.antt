@@ -1,5 +1,7 @@
--- A world with what came to pass in it: the logs and labels are computed from it and from the events.
-use Rattle.std.specs.Prelude.{ℕ, ◌+◌, Bool, List, [], ◌∷◌, ◌++◌, length, drop, Option, Some, None, option_map, unwrap_or, Result, Ok, Err}
+-- A world with what came to pass in it: the logs and labels are computed from it and from the
+-- events.
+use Rattle.std.specs.Prelude.{ℕ, ◌+◌, Bool, List, [], ◌∷◌, ◌++◌, length, drop, Option, Some, None}
+use Rattle.std.specs.Prelude.{option_map, unwrap_or, Result, Ok, Err}
 use Rattle.schc_bits.specs.Bits.{octets}
 use Rattle.schc_ids.specs.Ends.{sent_direction, other_direction}
 use Rattle.schc_ids.specs.PerDirection.{PerDirection, at_direction, put_direction}
@@ -19,22 +21,29 @@ use Rattle.frag_wire.specs.Layouts.{payload_in}
 use Rattle.frag_wire.specs.Spells.{reading_in}
 use Rattle.frag_wire.specs.declared.message.Message.{Message}
 use Rattle.sessions.specs.Keys.{SessionKey, Entry, found}
-use Rattle.sessions.specs.Receivers.{new_receiver, receiver_checked, receiver_previewed, receiver_taken}
+use Rattle.sessions.specs.Receivers.{new_receiver, receiver_checked, receiver_previewed}
+use Rattle.sessions.specs.Receivers.{receiver_taken}
 use Rattle.sessions.specs.Reception.{Reception}
 use Rattle.sessions.specs.Session.{Session}
 use Rattle.sessions.specs.declared.receivers.Receiver.{Receiver}
 use Rattle.lanes.specs.Lane.{Msg, Begun, Check, LaneReport}
-use Rattle.lanes.specs.Step.{msg, told, kind_sent, heard_by, aborted_by, ticked_by, label_after, checked_label, kept_after, checks_of}
+use Rattle.lanes.specs.Step.{msg, told, kind_sent, heard_by, aborted_by, ticked_by, label_after}
+use Rattle.lanes.specs.Step.{checked_label, kept_after, checks_of}
 use Rattle.end_core.specs.Data.{EndData}
 use Rattle.end_core.specs.End.{frame_of, take_step}
-use Rattle.two_ends.specs.Happening.{Given, Answers, Goes, Opens, Carries, NoFrame, Happening, Waits, Gives, Arrives, Fragment, Answer, Ticks, GivesUp, own_key, happening_in}
+use Rattle.two_ends.specs.Happening.{Given, Answers, Goes, Opens, Carries, NoFrame, Happening}
+use Rattle.two_ends.specs.Happening.{Waits, Gives, Arrives, Fragment, Answer, Ticks, GivesUp}
+use Rattle.two_ends.specs.Happening.{own_key, happening_in}
 use Rattle.two_ends.specs.Keys.{Key, Keyed, sent_key, taken_key, keyed, mode_of}
 use Rattle.two_ends.specs.Labels as label
-use Rattle.two_ends.specs.Labels.{Label, Mark, WholeFrame, MessageOf, marked_frame, Held, Labels, no_labels, held_by, hold, first_place}
-use Rattle.two_ends.specs.Logs.{HandedDown, HandedUp, Began, Logs, no_logs, session_of, handed_down, up_entries}
+use Rattle.two_ends.specs.Labels.{Label, Mark, WholeFrame, MessageOf, marked_frame, Held, Labels}
+use Rattle.two_ends.specs.Labels.{no_labels, held_by, hold, first_place}
+use Rattle.two_ends.specs.Logs.{HandedDown, HandedUp, Began, Logs, no_logs, session_of, handed_down}
+use Rattle.two_ends.specs.Logs.{up_entries}
 use Rattle.two_ends.specs.World.{WorldData, beginning, end_of, sender, taker, step}
 
--- a world, the number of events so far, the ticks that passed at each end, the labels, and what came to pass
+-- a world, the number of events so far, the ticks that passed at each end, the labels, and what
+-- came to pass
 pub record History : Type 0 where
   pub world : WorldData
   pub place : ℕ
@@ -45,7 +54,14 @@ pub record History : Type 0 where
 -- the beginning, where nothing has come to pass
 abbrev pub start : EndParams → History
 start params =
-    record { world = beginning params; place = 0; ticks = record { device = 0; gateway = 0 }; labels = no_labels; logs = no_logs }
+    record {
+      world = beginning params;
+      place = 0;
+      ticks =
+          record { device = 0; gateway = 0 };
+      labels = no_labels;
+      logs = no_logs;
+    }
 
 abbrev pub happening : History → Event → Happening
 happening h event = happening_in h.world h.labels event
@@ -60,7 +76,8 @@ abbrev pub new_reception : Key → Reception
 new_reception key = record { receiver = new_receiver (mode_of key); left = None }
 
 unfoldable pub reception_at : WorldData → Key → Reception
-reception_at w key = unwrap_or (found key.id (end_of w (taker key.way)).sessions.receivers) (new_reception key)
+reception_at w key =
+    unwrap_or (found key.id (end_of w (taker key.way)).sessions.receivers) (new_reception key)
 
 -- Packets that are handed down, and those that wait.
 
@@ -86,7 +103,8 @@ queued_after h happening = h.labels.queued
 
 -- Frames that are given, and sessions that begin.
 
--- an answer belongs to the session of what its receiver took last, a message to that of its key that began last
+-- an answer belongs to the session of what its receiver took last, a message to that of its key
+-- that began last
 unfoldable pub marks_given : History → Role → Given → List Mark
 marks_given h role (Answers id reception bytes) =
     let key : Key = taken_key role id in
@@ -95,23 +113,37 @@ marks_given h role (Goes id session bytes) =
     let key : Key = sent_key role id in
     MessageOf key (msg (session_of key h.logs.begins) (at_role h.ticks role) bytes) ∷ []
 marks_given h role (Opens id session form bytes) =
-    MessageOf (sent_key role id) (msg (Some (length h.logs.begins)) (at_role h.ticks role) bytes) ∷ []
-marks_given h role (Carries form) = WholeFrame (first_place (at_role h.labels.queued role)) (frame_of form) ∷ []
+    MessageOf (sent_key role id)
+    (msg (Some (length h.logs.begins)) (at_role h.ticks role) bytes) ∷ []
+marks_given h role (Carries form) =
+    WholeFrame (first_place (at_role h.labels.queued role)) (frame_of form) ∷ []
 marks_given h role NoFrame = []
 
 unfoldable pub sent_after : History → Happening → PerDirection (List Mark)
 sent_after h (Gives role given) =
     let direction : Direction = sent_direction role in
-    put_direction h.labels.sent direction (at_direction h.labels.sent direction ++ marks_given h role given)
+    put_direction h.labels.sent direction
+    (at_direction h.labels.sent direction ++ marks_given h role given)
 sent_after h happening = h.labels.sent
 
 abbrev pub begun_at : History → Session → Packed → Begun
 begun_at h session form =
-    record { time = h.place; place = length h.logs.begins; number = session.number; bits = form.bits }
+    record {
+      time = h.place;
+      place = length h.logs.begins;
+      number = session.number;
+      bits =
+          form.bits;
+    }
 
 unfoldable pub begins_given : History → Role → Given → List Began
 begins_given h role (Opens id session form bytes) =
-    record { key = sent_key role id; it = begun_at h session form; down = first_place (at_role h.labels.queued role) } ∷ []
+    record {
+      key = sent_key role id;
+      it = begun_at h session form;
+      down =
+          first_place (at_role h.labels.queued role);
+    } ∷ []
 begins_given h role given = []
 
 unfoldable pub begins_after : History → Happening → List Began
@@ -120,7 +152,8 @@ begins_after h happening = h.logs.begins
 
 -- Fragments that arrive.
 
--- what a fragment adds: what the receiver keeps of sessions, the check that is made, the check that passed, and the session of
+-- what a fragment adds: what the receiver keeps of sessions, the check that is made, the check that
+-- passed, and the session of
 -- its All-1
 pub record Came : Type 0 where
   pub held : Held
@@ -144,8 +177,10 @@ came_as time label held receiver message payload =
 
 -- nothing, where the bytes are no message
 unfoldable pub came_read : ℕ → Held → Receiver → Msg → Result Message WireFault → Came
-came_read time held receiver m (Err fault) = record { held = held; checks = []; joins = []; session = None }
-came_read time held receiver m (Ok message) = came_as time m.label held receiver message (payload_in message (octets m.bytes))
+came_read time held receiver m (Err fault) =
+    record { held = held; checks = []; joins = []; session = None }
+came_read time held receiver m (Ok message) =
+    came_as time m.label held receiver message (payload_in message (octets m.bytes))
 
 abbrev pub came : History → Key → Msg → Came
 came h key m =
@@ -172,10 +207,13 @@ handed h direction frame label =
     up_entries h.place direction (take_step (end_of h.world (taker direction)) frame).1.up label
 
 unfoldable pub ups_after : History → Happening → List HandedUp
-ups_after h (Arrives direction place frame) = h.logs.ups ++ handed h direction frame (Some (label.Whole place))
+ups_after h (Arrives direction place frame) =
+    h.logs.ups ++ handed h direction frame (Some (label.Whole place))
 ups_after h (Fragment key m) =
-    h.logs.ups ++ handed h key.way (marked_frame (MessageOf key m)) (option_map label.Session (came h key m).session)
-ups_after h (Answer key m) = h.logs.ups ++ handed h (other_direction key.way) (marked_frame (MessageOf key m)) None
+    h.logs.ups ++ handed h key.way (marked_frame (MessageOf key m))
+    (option_map label.Session (came h key m).session)
+ups_after h (Answer key m) =
+    h.logs.ups ++ handed h (other_direction key.way) (marked_frame (MessageOf key m)) None
 ups_after h happening = h.logs.ups
 
 -- Sessions that end.
@@ -212,7 +250,8 @@ reports_after h (Gives role given) = h.logs.reports ++ reports_given h role give
 reports_after h (Answer key m) = h.logs.reports ++ reports_heard h key m
 reports_after h (Ticks target.Device) = h.logs.reports ++ reports_ticked h Device
 reports_after h (Ticks target.Gateway) = h.logs.reports ++ reports_ticked h Gateway
-reports_after h (Ticks target.Both) = (h.logs.reports ++ reports_ticked h Device) ++ reports_ticked h Gateway
+reports_after h (Ticks target.Both) =
+    (h.logs.reports ++ reports_ticked h Device) ++ reports_ticked h Gateway
 reports_after h (GivesUp role id) = h.logs.reports ++ reports_given_up h role id
 reports_after h happening = h.logs.reports
 
@@ -221,7 +260,8 @@ reports_after h happening = h.logs.reports
 unfoldable pub ticks_after : History → Happening → PerRole ℕ
 ticks_after h (Ticks target.Device) = put_role h.ticks Device (h.ticks.device + 1)
 ticks_after h (Ticks target.Gateway) = put_role h.ticks Gateway (h.ticks.gateway + 1)
-ticks_after h (Ticks target.Both) = record { device = h.ticks.device + 1; gateway = h.ticks.gateway + 1 }
+ticks_after h (Ticks target.Both) =
+    record { device = h.ticks.device + 1; gateway = h.ticks.gateway + 1 }
 ticks_after h happening = h.ticks
 
 -- the history after something happened that left this world

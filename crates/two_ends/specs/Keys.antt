@@ -14,7 +14,8 @@ use Rattle.sessions.specs.Keys.{SessionKey}
 use Rattle.sessions.specs.Keys as at_end
 use Rattle.lanes.specs.Lane.{LaneParams}
 
--- RFC 8724, section 8.2.4: the direction of the fragments, the RuleID, which is the port, and the DTag
+-- RFC 8724, section 8.2.4: the direction of the fragments, the RuleID, which is the port, and the
+-- DTag
 pub record Key : Type 0 where
   pub way : Direction
   pub id : SessionKey
@@ -56,7 +57,8 @@ abbrev pub mode_or : Option (Direction × FragMode) → FragMode
 mode_or None = NoAck
 mode_or (Some fragments) = fragments.1
 
--- the mode of the key's sessions (RFC 9011, section 5.2); where no fragments go by the port there are none
+-- the mode of the key's sessions (RFC 9011, section 5.2); where no fragments go by the port there
+-- are none
 unfoldable pub mode_of : Key → FragMode
 mode_of key = mode_or (fragments_by key.id.port)
 

@@ -1,4 +1,5 @@
--- The lanes of a world: what of a history belongs to one key, and what an event is on that key's lane.
+-- The lanes of a world: what of a history belongs to one key, and what an event is on that key's
+-- lane.
 use Rattle.std.specs.Prelude.{ℕ, ◌≡◌, Bool, true, false, List, [], ◌∷◌, ◌++◌, length}
 use Rattle.std.specs.List.{flat_map}
 use Rattle.schc_ids.specs.Ends.{sent_direction, other_direction}
@@ -14,9 +15,12 @@ use Rattle.lanes.specs.Events.{LaneEvent, Possible}
 use Rattle.lanes.specs.Lane.{Lane, Msg}
 use Rattle.lanes.specs.Runs.{lane_steps, timed, Along}
 use Rattle.two_ends.specs.Fits.{Fits}
-use Rattle.two_ends.specs.Happening.{Given, Answers, Goes, Opens, Carries, NoFrame, Happening, Nothing, Waits, Gives, Arrives, Fragment, Answer, Ticks, GivesUp}
+use Rattle.two_ends.specs.Happening.{Given, Answers, Goes, Opens, Carries, NoFrame, Happening}
+use Rattle.two_ends.specs.Happening.{Nothing, Waits, Gives, Arrives, Fragment, Answer, Ticks}
+use Rattle.two_ends.specs.Happening.{GivesUp}
 use Rattle.two_ends.specs.History.{History, happening, sender_at, reception_at, next, start, run}
-use Rattle.two_ends.specs.Keys.{Key, sent_key, taken_key, same_way, same_key, piece, of_key, lane_params}
+use Rattle.two_ends.specs.Keys.{Key, sent_key, taken_key, same_way, same_key, piece, of_key}
+use Rattle.two_ends.specs.Keys.{lane_params}
 use Rattle.two_ends.specs.Labels.{Mark, WholeFrame, MessageOf, held_by}
 use Rattle.two_ends.specs.Logs.{begins_of}
 use Rattle.two_ends.specs.World.{sender, taker}
@@ -49,8 +53,10 @@ lane_of params key h = record {
 
 -- what an end gives is an event of the lane of its key, where so many sessions began before
 unfoldable pub given_events : Key → ℕ → Role → Given → List LaneEvent
-given_events key place role (Answers id reception bytes) = piece (same_key key (taken_key role id)) lane.Answer
-given_events key place role (Goes id session bytes) = piece (same_key key (sent_key role id)) lane.Send
+given_events key place role (Answers id reception bytes) =
+    piece (same_key key (taken_key role id)) lane.Answer
+given_events key place role (Goes id session bytes) =
+    piece (same_key key (sent_key role id)) lane.Send
 given_events key place role (Opens id session form bytes) =
     piece (same_key key (sent_key role id)) (lane.Begin place session.number form.bits)
 given_events key place role (Carries form) = []
@@ -83,11 +89,13 @@ lane_events key h event = events_of key (length h.logs.begins) (happening h even
 -- the events of the lane along events of the world, each with its time
 abbrev pub lane_run : Key → History → List Event → List (ℕ × LaneEvent)
 lane_run key h [] = []
-lane_run key h (event ∷ events) = timed h.place (lane_events key h event) ++ lane_run key (next h event) events
+lane_run key h (event ∷ events) =
+    timed h.place (lane_events key h event) ++ lane_run key (next h event) events
 
 -- the world's step is the lane's steps, and each is possible where it comes
 pub record IsStepped (params : EndParams) (key : Key) (h : History) (event : Event) : Type 0 where
-  pub same : lane_of params key (next h event) ≡ lane_steps h.place (lane_of params key h) (lane_events key h event)
+  pub same : lane_of params key (next h event) ≡ lane_steps h.place (lane_of params key h)
+      (lane_events key h event)
   pub possible : Along Possible h.place (lane_of params key h) (lane_events key h event)
 
 -- so it is in every world that events lead to, for each key

@@ -12,12 +12,18 @@ use Rattle.two_ends.specs.Fits.{Fits}
 use Rattle.two_ends.specs.History.{start, run}
 use Rattle.two_ends.specs.Clean.{outcome}
 
--- An end adopts the edition of the chain with this number where it is above that of the edition that it knows. The answer
+-- An end adopts the edition of the chain with this number where it is above that of the edition
+-- that it knows. The answer
 -- is never that the edition diverges: the editions of the one chain follow one another.
 pub record IsOfferedInChain (w : WorldData) (role : Role) (number : ℕ) : Type 0 where
   pub adopts :
-      (edition : EditionData) → slice_get w.chain number ≡ Some edition → (end_of w role).known.number < number →
-      step w (Offer role number) ≡ (with_end w role (with_known (end_of w role) edition), Ok (line.Offer Adopted))
+      (edition : EditionData) → slice_get w.chain number ≡ Some edition
+      → (end_of w role).known.number < number →
+      step w (Offer role number) ≡ (
+        with_end w role (with_known (end_of w role) edition),
+        Ok
+            (line.Offer Adopted),
+      )
   pub never_diverges : (id : ℕ) → outcome w (Offer role number) ≢ Ok (line.Offer (Diverged id))
 
 -- so it is in every world that events lead to

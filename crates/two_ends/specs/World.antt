@@ -1,6 +1,8 @@
--- Both ends of one link, the editions of rules that were published, and every frame that was ever sent: one event at a
+-- Both ends of one link, the editions of rules that were published, and every frame that was ever
+-- sent: one event at a
 -- time, and its outcome.
-use Rattle.std.specs.Prelude.{ℕ, zero, suc, ◌+◌, ◌-◌, List, [], ◌∷◌, ◌++◌, length, Option, Some, None, unwrap_or, Result, Ok, Err, slice_get}
+use Rattle.std.specs.Prelude.{ℕ, zero, suc, ◌+◌, ◌-◌, List, [], ◌∷◌, ◌++◌, length, Option, Some}
+use Rattle.std.specs.Prelude.{None, unwrap_or, Result, Ok, Err, slice_get}
 use Rattle.schc_ids.specs.Ends.{sent_direction}
 use Rattle.schc_ids.specs.PerRole.{PerRole, at_role, put_role}
 use Rattle.schc_ids.specs.PerDirection.{PerDirection, at_direction, put_direction}
@@ -30,7 +32,8 @@ use Rattle.end_core.specs.End.{new_end}
 use Rattle.end_core.specs.Events as at_end
 use Rattle.end_core.specs.EndStep.{end_step}
 
--- both ends, the chain of editions, and all frames that were ever sent in each direction, each the first first. The
+-- both ends, the chain of editions, and all frames that were ever sent in each direction, each the
+-- first first. The
 -- chain begins with the empty edition 0, so that an edition stands at the place of its number
 pub record WorldData : Type 0 where
   pub ends : PerRole EndData
@@ -97,7 +100,8 @@ sent_after frames (Some emitted) = (frames ++ emitted.frame ∷ [], Some (emissi
 abbrev pub with_sent : WorldData → Role → Option Emitted → WorldData
 with_sent w role emitted =
     let direction = sent_direction role
-    in record w { frames = put_direction w.frames direction (sent_after (frames_of w direction) emitted).0 }
+    in record w
+    { frames = put_direction w.frames direction (sent_after (frames_of w direction) emitted).0 }
 
 -- the line of a tick of one end
 abbrev pub tick_line : Role → Option Report → Line
@@ -105,10 +109,14 @@ tick_line Device report = line.Tick report None
 tick_line Gateway report = line.Tick None report
 
 -- an end is this one now, and had this outcome
-unfoldable pub answered : WorldData → Role → EndData → at_end.Outcome → WorldData × Result Line StepFault
+unfoldable pub answered : WorldData → Role → EndData → at_end.Outcome → WorldData
+    × Result Line StepFault
 answered w role new (at_end.Handed answer) = (with_end w role new, Ok (hand_line answer))
-answered w role new (at_end.Sent emitted) =
-    (with_sent (with_end w role new) role emitted, Ok (line.Slot (sent_after (frames_of w (sent_direction role)) emitted).1))
+answered w role new (at_end.Sent emitted) = (
+  with_sent (with_end w role new) role emitted,
+  Ok
+      (line.Slot (sent_after (frames_of w (sent_direction role)) emitted).1),
+)
 answered w role new (at_end.Took taken) = (with_end w role new, Ok (line.Deliver taken))
 answered w role new (at_end.Ticked report) = (with_end w role new, Ok (tick_line role report))
 answered w role new (at_end.Aborted report) = (with_end w role new, Ok (line.Abort report))
@@ -120,7 +128,8 @@ unfoldable pub end_event : WorldData → Role → at_end.EndEvent → WorldData 
 end_event w role event = let s = end_step (end_of w role) event in answered w role s.0 s.1
 
 -- the frame with this number arrives, if it was ever sent; it stays there to arrive again
-unfoldable pub deliver_step : WorldData → Direction → ℕ → Option FrameData → WorldData × Result Line StepFault
+unfoldable pub deliver_step : WorldData → Direction → ℕ → Option FrameData → WorldData
+    × Result Line StepFault
 deliver_step w direction number None = (w, Err (NoSuchFrame number))
 deliver_step w direction number (Some frame) = end_event w (taker direction) (at_end.Take frame)
 
@@ -136,15 +145,21 @@ tick_step w target.Gateway = end_event w Gateway at_end.Tick
 tick_step w target.Both =
     let device = end_step (end_of w Device) at_end.Tick
     in let gateway = end_step (end_of w Gateway) at_end.Tick
-    in (with_end (with_end w Device device.0) Gateway gateway.0, Ok (line.Tick (tick_report device.1) (tick_report gateway.1)))
+    in (
+      with_end (with_end w Device device.0) Gateway gateway.0,
+      Ok
+          (line.Tick (tick_report device.1) (tick_report gateway.1)),
+    )
 
 -- an edition is published: it is the last one of the chain then, unless there is a finding
-unfoldable pub publish_step : WorldData → Result EditionData Finding → WorldData × Result Line StepFault
+unfoldable pub publish_step : WorldData → Result EditionData Finding → WorldData
+    × Result Line StepFault
 publish_step w (Ok edition) = (with_edition w edition, Ok (line.Published edition.number))
 publish_step w (Err finding) = (w, Ok (line.Refused finding))
 
 -- an end is offered the edition with this number, if it was published
-unfoldable pub offer_step : WorldData → Role → ℕ → Option EditionData → WorldData × Result Line StepFault
+unfoldable pub offer_step : WorldData → Role → ℕ → Option EditionData → WorldData
+    × Result Line StepFault
 offer_step w role number None = (w, Err (NoSuchEdition number))
 offer_step w role number (Some edition) = end_event w role (at_end.Offer edition)
 
@@ -152,9 +167,17 @@ offer_step w role number (Some edition) = end_event w role (at_end.Offer edition
 unfoldable pub step : WorldData → Event → WorldData × Result Line StepFault
 step w (Down role packet) = end_event w role (at_end.Down packet)
 step w (Slot role) = end_event w role at_end.Slot
-step w (Deliver direction number) = deliver_step w direction number (numbered (frames_of w direction) number)
+step w (Deliver direction number) =
+    deliver_step w direction number (numbered (frames_of w direction) number)
 step w (Tick target) = tick_step w target
 step w (Abort role) = end_event w role at_end.Abort
 step w (Publish raw) = publish_step w (published (last_edition w.chain) raw)
 step w (Offer role number) = offer_step w role number (slice_get w.chain number)
 step w (Allow role number) = end_event w role (at_end.Allow number)
+
+-- the event can want memory: a tick, an abort and the allowance of an edition never do
+abbrev pub MayWantMemory : Event → Type 0
+MayWantMemory (Tick target) = ⊥
+MayWantMemory (Abort role) = ⊥
+MayWantMemory (Allow role number) = ⊥
+MayWantMemory event = Unit {0}

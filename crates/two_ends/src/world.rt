@@ -5,7 +5,7 @@ ghost use Rattle.event_data.specs.Records.{FrameData};
 ghost use Rattle.event_data.specs.Outcomes.{IsNote, IsLineOf, HasHappened};
 ghost use Rattle.end_core.specs.End.{slot_step, take_step};
 ghost use Rattle.schc_ids.specs.Params.{IsParams};
-ghost use Rattle.two_ends.specs.World.{beginning, numbered, step, sent_after};
+ghost use Rattle.two_ends.specs.World.{beginning, numbered, step, sent_after, MayWantMemory};
 
 use crate::chain::Chain;
 use end_core::End;
@@ -68,10 +68,12 @@ impl World {
     /// # Errors
     /// `NoSuchFrame` exactly where no frame with the number that is to be delivered was sent in the
     /// direction, `NoSuchEdition` exactly where no edition with the number that is to be offered was
-    /// published, and want of memory. Nothing has changed then.
+    /// published, and want of memory, which a tick, an abort and an allowance never have. Nothing has
+    /// changed then.
     pub fn step(&mut self, event: &WorldEvent) -> Result<Line, StepFault>
         ensures done { IfOk result (λ line. step self.old (view_event event.now) ≡ (self.new, Ok line)) }
         ensures refused { IfErr result (λ fault. (fault ≡ StepFault.Memory) ⊎ (step self.old (view_event event.now) ≡ (self.old, Err fault))) }
+        ensures memory { IfErr result (λ fault. fault ≡ StepFault.Memory → MayWantMemory (view_event event.now)) }
         ensures unchanged { OnErr result (self.new ≡ self.old) }
         ensures outcome { IfOk result (λ line. IsLineOf (view_event event.now) line) }
         ensures happened { IfOk result HasHappened }
