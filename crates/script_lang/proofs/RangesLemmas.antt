@@ -1,7 +1,10 @@
--- A script keeps its ranges when a device is declared, and when an event of one of its devices is added.
+-- A script keeps its ranges when a device is declared, and when an event of one of its devices is
+-- added.
 use Rattle.std.proofs.Common.{ℕ, ◌≡◌, ◌==◌, Bool, true, false, not, ◌&&◌, ◌||◌, List, [], ◌∷◌, ◌++◌}
-use Rattle.std.proofs.Common.{length, ◌<◌, ◌≤◌, refl, sym, ◌∙◌, ap, arith}
+use Rattle.std.proofs.Common.{length, ◌<◌, refl, sym, ◌∙◌, ap, arith}
+use Rattle.std.proofs.Common.{cond, nat_eq}
 use Rattle.std.specs.List.{list_any}
+use Rattle.std.specs.HashSet.{HashSet, contains, Updates}
 use Rattle.std.proofs.lemmas.List.{length-append}
 use Rattle.std.proofs.lemmas.Bool.Decides.{nat_tests}
 use Rattle.schc_bits.proofs.ListLemmas.{all-append, all-weaken}
@@ -9,9 +12,9 @@ use Rattle.schc_ids.specs.Params.{IsParams}
 use Rattle.rule_model.specs.declared.raw.DeviceLine.{DeviceLine}
 use Rattle.event_data.specs.Events.{Event, Down, Slot, Deliver, Tick, Abort, Publish, Offer, Allow}
 use Rattle.script_lang.specs.ScriptData.{ScriptEventData}
-use Rattle.script_lang.specs.Ranges.{max_devices, max_events, is_declared, HaveParams}
-use Rattle.script_lang.specs.Ranges.{HaveOwnNumbers, HandBytes, IsOfDeclared, AreDeclared}
-use Rattle.script_lang.specs.Ranges.{HaveSpellings}
+use Rattle.script_lang.specs.Ranges.{max_devices, is_declared}
+use Rattle.script_lang.specs.Ranges.{HaveOwnNumbers, IsOfDeclared, AreDeclared}
+use Rattle.script_lang.specs.Ranges.{InRange, AreNumbersOf}
 use Rattle.script_lang.specs.Telling.{IsOneDevices, CanHappen}
 
 or-none : (b : Bool) → b || false ≡ b
@@ -64,6 +67,23 @@ own-more (device ∷ devices) line own new =
     (other-way device.number line.number others.0) in
     rw (apart, own-more devices line parts.1 others.1) refl
 
+either : (b c : Bool) → cond b true c ≡ c || b
+either true true = refl
+either true false = refl
+either false true = refl
+either false false = refl
+
+-- when a number goes into the set and a device with it behind the others, the set still has the
+-- devices' numbers
+pub numbers_one : {S : Type 0} (old new : HashSet ℕ S) (devices : List DeviceLine)
+    (line : DeviceLine) → Updates nat_eq old new line.number true → AreNumbersOf old devices
+    → AreNumbersOf new (devices ++ line ∷ [])
+numbers_one old new devices line updates numbers n =
+    updates.0 n
+    ∙ either (line.number == n) (contains nat_eq old n)
+    ∙ ap (λ b. b || (line.number == n)) (numbers n)
+    ∙ sym (any-last (λ device. device.number == n) devices line)
+
 -- ---- events
 
 declared-later : (devices : List DeviceLine) (line : DeviceLine) (n : ℕ) (event : Event)
@@ -85,21 +105,11 @@ all-declared-later devices line events h =
     (λ e. IsOfDeclared (devices ++ line ∷ []) e.device e.event) events
     (λ e. declared-later devices line e.device e.event) h
 
--- a script's devices and events are in their ranges and within the limits
-abbrev pub InRange : List DeviceLine → List ScriptEventData → Type 0
-InRange devices events =
-    HaveParams devices
-    × HaveOwnNumbers devices
-    × (length devices ≤ max_devices)
-    × HandBytes events
-    × AreDeclared devices events
-    × HaveSpellings events
-    × (length events ≤ max_events)
-
-pub declared-one : (devices : List DeviceLine) (events : List ScriptEventData) (line : DeviceLine)
+-- a script stays in its ranges when a device with a number of its own is declared
+pub declared_one : (devices : List DeviceLine) (events : List ScriptEventData) (line : DeviceLine)
     → is_declared devices line.number ≡ false → IsParams line.params → length devices < max_devices
     → InRange devices events → InRange (devices ++ line ∷ []) events
-declared-one devices events line new params few r = (
+declared_one devices events line new params few r = (
   all-append (λ device. IsParams device.params) devices (line ∷ []) r.0 (params, tt),
   own-more devices line r.1 new,
   omega (arith, length-append devices (line ∷ [])),

@@ -23,7 +23,7 @@ use Rattle.event_data.specs.Events.{HandsBytes}
 use Rattle.script_lang.specs.ScriptData.{ScriptEventData, ScriptData}
 use Rattle.script_lang.specs.Ranges.{max_devices, max_events, is_declared, HaveParams}
 use Rattle.script_lang.specs.Ranges.{HaveOwnNumbers, IsOfDeclared, AreDeclared, HandBytes}
-use Rattle.script_lang.specs.Ranges.{HasSpelling, HaveSpellings}
+use Rattle.script_lang.specs.Ranges.{HasSpelling, HaveSpellings, InRange}
 use Rattle.script_lang.specs.Spelling.{spelled, role_word, direction_word, target_word}
 use Rattle.script_lang.specs.Spelling.{CanBeSpelled}
 use Rattle.script_lang.specs.Parsing.{with_lines, ParsesTo, empty_script}
@@ -31,7 +31,7 @@ use Rattle.script_lang.specs.Writing.{device_line, event_line, text_of_lines, sc
 use Rattle.script_lang.specs.Writing.{script_text}
 use Rattle.script_lang.specs.Reading.{HaveNumbers, EventReads, AllRead}
 use Rattle.script_lang.proofs.SpellingLemmas.{reads-back}
-use Rattle.script_lang.proofs.RangesLemmas.{InRange, not-both, none-of, other-way}
+use Rattle.script_lang.proofs.RangesLemmas.{not-both, none-of, other-way}
 use Rattle.script_lang.proofs.FeedLemmas.{NoFeed, both, literal, decimal-clean, hex-clean}
 use Rattle.script_lang.proofs.FeedLemmas.{json-clean}
 use Rattle.script_lang.proofs.WritingLemmas.{is-bytes, lines-again, device-again, device-clean}

@@ -1,6 +1,8 @@
--- The lines that declare a device: `device N DEVIID APPIID`, and then, each where it is given and in this order, `mtu M`,
+-- The lines that declare a device: `device N DEVIID APPIID`, and then, each where it is given and
+-- in this order, `mtu M`,
 -- `mode acked|noack`, `last all1|regular` and `timers A B C D`.
-use Rattle.std.specs.Prelude.{ℕ, ◌+◌, ◌^◌, nat_le, if◌then◌else◌, List, [], ◌∷◌, Option, Some, None, codes}
+use Rattle.std.specs.Prelude.{ℕ, ◌+◌, ◌^◌, nat_le, if◌then◌else◌, List, [], ◌∷◌, Option, Some, None}
+use Rattle.std.specs.Prelude.{codes}
 use Rattle.std.specs.Str.{bytes_eq}
 use Rattle.schc_ids.specs.declared.ends.EndParams.{EndParams}
 use Rattle.schc_ids.specs.declared.ends.Iids.{Iids}
@@ -39,18 +41,22 @@ iids_of dev app = do
   a ← iid_of app
   Some (record { dev = d; app = a })
 
--- an option with one value: where the words begin with its name, what the next word is read as, else `default`; and the
+-- an option with one value: where the words begin with its name, what the next word is read as,
+-- else `default`; and the
 -- words after it
-abbrev pub option_in : {A : Type 0} → List ℕ → (List ℕ → Option A) → A → List (List ℕ) → Option (A × List (List ℕ))
+abbrev pub option_in : {A : Type 0} → List ℕ → (List ℕ → Option A) → A → List (List ℕ)
+    → Option (A × List (List ℕ))
 option_in name read default [] = Some (default, [])
 option_in name read default (word ∷ []) = Some (default, word ∷ [])
 option_in name read default (word ∷ value ∷ words) =
-    if bytes_eq word name then (read value >>= λ x. Some (x, words)) else Some (default, word ∷ value ∷ words)
+    if bytes_eq word name then (read value >>= λ x. Some (x, words)) else Some
+    (default, word ∷ value ∷ words)
 
 -- `timers A B C D`, where it is given, and no word after it
 unfoldable pub timers_in : TimerTicks → List (List ℕ) → Option TimerTicks
 timers_in default [] = Some default
-timers_in default (name ∷ a ∷ b ∷ c ∷ d ∷ []) = if bytes_eq name (codes "timers") then timers_of a b c d else None
+timers_in default (name ∷ a ∷ b ∷ c ∷ d ∷ []) =
+    if bytes_eq name (codes "timers") then timers_of a b c d else None
 timers_in default words = None
 
 -- the parameters that options give; what isn't given is as in `default`

@@ -1,5 +1,7 @@
--- What a line of a script tells: a device, an edition of rules that is published, or what happens to the device's two ends.
-use Rattle.std.specs.Prelude.{ℕ, ◌^◌, ◌==◌, Bool, true, if◌then◌else◌, List, [], ◌∷◌, take, drop, Option, Some, None, codes}
+-- What a line of a script tells: a device, an edition of rules that is published, or what happens
+-- to the device's two ends.
+use Rattle.std.specs.Prelude.{ℕ, ◌^◌, ◌==◌, Bool, true, if◌then◌else◌, List, [], ◌∷◌, take, drop}
+use Rattle.std.specs.Prelude.{Option, Some, None, codes}
 use Rattle.std.specs.Option.{option_map}
 use Rattle.std.specs.Str.{bytes_eq}
 use Rattle.schc_ids.specs.declared.ends.Role.{Role}
@@ -115,7 +117,8 @@ device_event devices number name words =
 
 -- the event that a line of these words tells, where these devices are declared
 unfoldable pub event_in : List DeviceLine → List (List ℕ) → Option ScriptEventData
-event_in devices (name ∷ number ∷ words) = number_of (2 ^ 16) number >>= λ n. device_event devices n name words
+event_in devices (name ∷ number ∷ words) =
+    number_of (2 ^ 16) number >>= λ n. device_event devices n name words
 event_in devices words = None
 
 -- the text after `publish` and one space
@@ -135,18 +138,21 @@ is_passed_over (byte ∷ bytes) = byte == 35
 
 -- a device that a line declares, where its number isn't declared before
 abbrev pub own_device : List DeviceLine → DeviceLine → Option Told
-own_device devices device = if is_declared devices device.number then None else Some (Declares device)
+own_device devices device =
+    if is_declared devices device.number then None else Some (Declares device)
 
 -- what words tell: a device where they declare one, else an event
 unfoldable pub told_by_words : List DeviceLine → Option DeviceLine → List (List ℕ) → Option Told
 told_by_words devices (Some device) words = own_device devices device
 told_by_words devices None words = option_map Happens (event_in devices words)
 
--- what a line tells that isn't passed over: a publication where it begins so, else what its words tell
+-- what a line tells that isn't passed over: a publication where it begins so, else what its words
+-- tell
 unfoldable pub told_by_text : List DeviceLine → Option (List ℕ) → List ℕ → Option Told
 told_by_text devices (Some text) line = option_map Happens (publication text)
 told_by_text devices None line = told_by_words devices (device_in (words_of line)) (words_of line)
 
 -- what a line tells, where these devices are declared before it
 unfoldable pub told_by : List DeviceLine → List ℕ → Option Told
-told_by devices line = if is_passed_over line then Some Nothing else told_by_text devices (published_text line) line
+told_by devices line =
+    if is_passed_over line then Some Nothing else told_by_text devices (published_text line) line

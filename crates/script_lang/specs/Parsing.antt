@@ -1,5 +1,7 @@
--- What the text of a script means: the script that it is, or its first line that is outside the grammar or past a limit.
-use Rattle.std.specs.Prelude.{◌≡◌, ℕ, ◌+◌, nat_lt, if◌then◌else◌, List, [], ◌∷◌, ◌++◌, length, Option, Some, None, Result, Ok}
+-- What the text of a script means: the script that it is, or its first line that is outside the
+-- grammar or past a limit.
+use Rattle.std.specs.Prelude.{◌≡◌, ℕ, ◌+◌, nat_lt, if◌then◌else◌, List, [], ◌∷◌, ◌++◌, length}
+use Rattle.std.specs.Prelude.{Option, Some, None, Result, Ok}
 use Rattle.std.specs.Prelude.{Err}
 use Rattle.script_lang.specs.Text.{lines_of}
 use Rattle.script_lang.specs.ScriptData.{ScriptData}
@@ -25,26 +27,33 @@ with_told script (Happens event) =
 
 -- goes on with the script so far, where there is one
 infixl 10 ◌>>=◌
-abbrev pub ◌>>=◌ : Result ScriptData ScriptFault → (ScriptData → Result ScriptData ScriptFault) → Result ScriptData ScriptFault
+abbrev pub ◌>>=◌ : Result ScriptData ScriptFault → (ScriptData → Result ScriptData ScriptFault)
+    → Result ScriptData ScriptFault
 Ok script >>= later = later script
 Err fault >>= later = Err fault
 
--- the script with what the line of this number tells; a line that tells nothing is outside the grammar
+-- the script with what the line of this number tells. A blank line or a comment tells `Nothing`; a
+-- line of which
+-- nothing at all can be told is outside the grammar
 abbrev pub with_line : ℕ → ScriptData → Option Told → Result ScriptData ScriptFault
 with_line number script None = Err (BadLine number)
 with_line number script (Some told) = with_told script told
 
--- the script with these lines, the first of which has this number; or why not, the earliest line first
+-- the script with these lines, the first of which has this number; or why not, the earliest line
+-- first
 abbrev pub with_lines : ℕ → List (List ℕ) → ScriptData → Result ScriptData ScriptFault
 with_lines number [] script = Ok script
 with_lines number (line ∷ lines) script =
-    with_line number script (told_by script.devices line) >>= λ next. with_lines (number + 1) lines next
+    with_line number script (told_by script.devices line) >>= λ next. with_lines (number + 1) lines
+    next
 
 -- the script without devices and events
 abbrev pub empty_script : ScriptData
 empty_script = record { devices = []; events = [] }
 
--- the script that a text is, or its first line that is outside the grammar or past a limit; lines are counted from 1
+-- the script that a text is, or its first line that is outside the grammar or past a limit; lines
+-- are counted from 1. The fault
+-- is never `Memory`, of which a text can't tell
 abbrev pub script_of : List ℕ → Result ScriptData ScriptFault
 script_of text = with_lines 1 (lines_of text) empty_script
 

@@ -24,7 +24,8 @@ IsEveryones device event = Unit {0}
 abbrev pub AreEveryones : List ScriptEventData → Type 0
 AreEveryones events = AllByRecursion (λ (e : ScriptEventData). IsEveryones e.device e.event) events
 
--- the numbers of an event are in the ranges of their types, and the text of an edition that is published reads as that edition
+-- the numbers of an event are in the ranges of their types, and the text of an edition that is
+-- published reads as that edition
 abbrev pub CanBeRead : Event → Type 0
 CanBeRead (Deliver direction place) = place < 2 ^ 64
 CanBeRead (Publish raw) = edition_of (edition_text raw) ≡ Some raw

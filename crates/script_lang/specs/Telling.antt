@@ -23,5 +23,6 @@ pub record CanHappen (devices : List DeviceLine) (device : ℕ) (event : Event) 
 -- what a line tells after these devices is in its ranges
 abbrev pub IsInRange : List DeviceLine → Told → Type 0
 IsInRange devices Nothing = Unit {0}
-IsInRange devices (Declares device) = IsParams device.params × (is_declared devices device.number ≡ false)
+IsInRange devices (Declares device) = IsParams device.params
+    × (is_declared devices device.number ≡ false)
 IsInRange devices (Happens e) = CanHappen devices e.device e.event

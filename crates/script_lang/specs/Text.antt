@@ -1,5 +1,6 @@
 -- How a script is cut into lines and words, and how numbers and bytes are spelled in them.
-use Rattle.std.specs.Prelude.{ℕ, ◌==◌, ◌&&◌, nat_lt, Bool, false, not, if◌then◌else◌, List, [], ◌∷◌, length, Option, Some, None, Result, Ok, Err}
+use Rattle.std.specs.Prelude.{ℕ, ◌==◌, ◌&&◌, nat_lt, Bool, false, not, if◌then◌else◌, List, [], ◌∷◌}
+use Rattle.std.specs.Prelude.{length, Option, Some, None, Result, Ok, Err}
 use Rattle.std.specs.Option.{option_map, option_and_then}
 use Rattle.std.specs.List.{slice_split, list_all}
 use Rattle.std.specs.Char.{is_ascii_digit}
@@ -39,12 +40,14 @@ words_of line = slice_split is_space line
 abbrev pub is_numeral : List ℕ → Bool
 is_numeral [] = false
 is_numeral (digit ∷ []) = is_ascii_digit digit
-is_numeral (digit ∷ next ∷ digits) = not (digit == 48) && list_all is_ascii_digit (digit ∷ next ∷ digits)
+is_numeral (digit ∷ next ∷ digits) =
+    not (digit == 48) && list_all is_ascii_digit (digit ∷ next ∷ digits)
 
 -- the number below the limit that a word spells
 unfoldable pub number_of : ℕ → List ℕ → Option ℕ
 number_of limit word =
-    if is_numeral word && nat_lt (digits_value 10 word) limit then Some (digits_value 10 word) else None
+    if is_numeral word && nat_lt (digits_value 10 word) limit then Some (digits_value 10 word)
+    else None
 
 -- a value that was read, where one was
 abbrev pub read_value : {A E : Type 0} → Result A E → Option A

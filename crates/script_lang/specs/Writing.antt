@@ -31,7 +31,9 @@ unfoldable pub timers_words : TimerTicks → List ℕ
 timers_words ticks =
     decimal ticks.retransmission
     ++ (codes " "
-    ++ (decimal ticks.inactivity ++ (codes " " ++ (decimal ticks.linger ++ (codes " " ++ decimal ticks.quiet)))))
+    ++ (decimal
+    ticks.inactivity ++ (codes
+    " " ++ (decimal ticks.linger ++ (codes " " ++ decimal ticks.quiet)))))
 
 -- the options of a device, all of them
 unfoldable pub options_words : EndParams → List ℕ
@@ -40,7 +42,8 @@ options_words params =
     ++ (decimal params.mtu
     ++ (codes " mode "
     ++ (mode_word params.acked
-    ++ (codes " last " ++ (last_word params.last ++ (codes " timers " ++ timers_words params.ticks))))))
+    ++ (codes
+    " last " ++ (last_word params.last ++ (codes " timers " ++ timers_words params.ticks))))))
 
 -- the line that declares a device
 unfoldable pub device_line : DeviceLine → List ℕ
@@ -49,7 +52,8 @@ device_line device =
     ++ (decimal device.number
     ++ (codes " "
     ++ (iid_word device.params.iids.dev
-    ++ (codes " " ++ (iid_word device.params.iids.app ++ (codes " " ++ options_words device.params))))))
+    ++ (codes
+    " " ++ (iid_word device.params.iids.app ++ (codes " " ++ options_words device.params))))))
 
 -- the line that tells an event
 abbrev pub event_line : ScriptEventData → List ℕ

@@ -5,7 +5,17 @@ ghost use Rattle.std.specs.Option.{option_map};
 ghost use Rattle.schc_ids.specs.Limits.{IsMtu, IsTicks};
 ghost use Rattle.schc_ids.specs.Params.{AreTicks, IsParams};
 ghost use Rattle.rule_json.specs.Words.{acked_of, last_tile_of};
-ghost use Rattle.script_lang.specs.Devices.{mtu_of, ticks_of, timers_of, iids_of, option_in, timers_in, params_in, declared_device, device_in};
+ghost use Rattle.script_lang.specs.Devices.{
+  mtu_of,
+  ticks_of,
+  timers_of,
+  iids_of,
+  option_in,
+  timers_in,
+  params_in,
+  declared_device,
+  device_in,
+};
 
 use crate::text::{edition_number, iid, small_number};
 use rule_json::{acked_of, last_tile_of};

@@ -1,10 +1,8 @@
 //! The lines that tell what happens to a device.
 
-ghost use Rattle.std.specs.Prelude.{◌≡◌, ◌==◌, map, IfOk, IfSome};
+ghost use Rattle.std.specs.Prelude.{◌≡◌, map, IfOk, IfSome};
 ghost use Rattle.std.specs.Option.{option_map};
-ghost use Rattle.std.specs.List.{list_any};
 ghost use Rattle.event_data.specs.Events.{view_event};
-ghost use Rattle.script_lang.specs.Ranges.{is_declared};
 ghost use Rattle.script_lang.specs.Telling.{IsOneDevices, CanHappen};
 ghost use Rattle.script_lang.specs.Grammar.{
   role_of,
@@ -23,10 +21,9 @@ ghost use Rattle.script_lang.specs.Grammar.{
   event_in,
 };
 
-use crate::scripts::ScriptEvent;
+use crate::scripts::{Script, ScriptEvent};
 use crate::text::{edition_number, number, packet, small_number};
 use event_data::{Target, WorldEvent};
-use rule_model::DeviceLine;
 use schc_bits::Octets;
 use schc_ids::{Direction, Role};
 use std::alloc::{AllocError, Global};
@@ -143,7 +140,8 @@ fn allow_event(end: &[u8], edition: &[u8]) -> Option<WorldEvent>
 /// Want of memory.
 #[tactic(auto, unfolding(crate::specs::Grammar::hand_event))]
 fn hand_event(alloc: Global, end: &[u8], hex: &[u8]) -> Result<Option<WorldEvent>, AllocError>
-    ensures event { IfOk result (λ event. option_map view_event event ≡ hand_event end.now hex.now) }
+    ensures event { IfOk result
+        (λ event. option_map view_event event ≡ hand_event end.now hex.now) }
     ensures in_range { IfOk result (λ event. IfSome event (λ e. IsOneDevices (view_event e))) }
 {
     let Some(role) = role(end) else {
@@ -198,30 +196,24 @@ fn told_event(alloc: Global, name: &[u8], words: &[&[u8]]) -> Result<Option<Worl
     }
 }
 
-/// Whether a device with this number is declared.
-pub(crate) fn is_declared(devices: &[DeviceLine], number: u16) -> bool
-    ensures { result ≡ is_declared devices.now number }
-{
-    devices.iter().any(|device| device.number == number)
-}
-
-/// The event of the device with this number that words tell, where it is declared.
+/// The event of the device with this number that words tell, where the script declares it.
 ///
 /// # Errors
 /// Want of memory.
 #[tactic(auto, unfolding(crate::specs::Grammar::device_event))]
 fn device_event(
     alloc: Global,
-    devices: &[DeviceLine],
+    script: &Script,
     device: u16,
     name: &[u8],
     words: &[&[u8]],
 ) -> Result<Option<ScriptEvent>, AllocError>
-    ensures event { IfOk result (λ event. event ≡ device_event devices.now device name.now
+    ensures event { IfOk result (λ event. event ≡ device_event script.now.devices device name.now
         (map (λ word. word.now) words.now)) }
-    ensures in_range { IfOk result (λ event. IfSome event (λ e. CanHappen devices.now e.device e.event)) }
+    ensures in_range { IfOk result
+        (λ event. IfSome event (λ e. CanHappen script.now.devices e.device e.event)) }
 {
-    if !is_declared(devices, device) {
+    if !script.is_declared(device) {
         return Ok(None);
     }
     match told_event(alloc, name, words)? {
@@ -230,22 +222,24 @@ fn device_event(
     }
 }
 
-/// The event that a line of these words tells, where these devices are declared.
+/// The event that a line of these words tells, where the script declares its device.
 ///
 /// # Errors
 /// Want of memory.
 #[tactic(auto, unfolding(crate::specs::Grammar::event_in))]
 pub(crate) fn event(
     alloc: Global,
-    devices: &[DeviceLine],
+    script: &Script,
     words: &[&[u8]],
 ) -> Result<Option<ScriptEvent>, AllocError>
-    ensures event { IfOk result (λ event. event ≡ event_in devices.now (map (λ word. word.now) words.now)) }
-    ensures in_range { IfOk result (λ event. IfSome event (λ e. CanHappen devices.now e.device e.event)) }
+    ensures event { IfOk result (λ event. event ≡ event_in script.now.devices
+        (map (λ word. word.now) words.now)) }
+    ensures in_range { IfOk result
+        (λ event. IfSome event (λ e. CanHappen script.now.devices e.device e.event)) }
 {
     match words {
         [name, number, rest @ ..] => match small_number(number) {
-            Some(device) => device_event(alloc, devices, device, name, rest),
+            Some(device) => device_event(alloc, script, device, name, rest),
             None => Ok(None),
         },
         _ => Ok(None),

@@ -16,8 +16,8 @@ ghost use Rattle.script_lang.specs.Grammar.{
 ghost use Rattle.script_lang.specs.Telling.{CanHappen, IsInRange};
 
 use crate::devices::device;
-use crate::happenings::{event, is_declared};
-use crate::scripts::ScriptEvent;
+use crate::happenings::event;
+use crate::scripts::{Script, ScriptEvent};
 use crate::text::words;
 use event_data::WorldEvent;
 use rule_json::{JsonFault, read_edition};
@@ -82,13 +82,13 @@ pub(crate) enum Told {
     Happens(ScriptEvent),
 }
 
-/// A device that a line declares, where its number isn't declared before.
-fn own_device(declared: &[DeviceLine], device: DeviceLine) -> Option<Told>
+/// A device that a line declares, where the script doesn't declare its number before.
+fn own_device(script: &Script, device: DeviceLine) -> Option<Told>
     requires { IsParams device.params }
-    ensures told { result ≡ own_device declared.now device }
-    ensures in_range { IfSome result (IsInRange declared.now) }
+    ensures told { result ≡ own_device script.now.devices device }
+    ensures in_range { IfSome result (IsInRange script.now.devices) }
 {
-    if is_declared(declared, device.number) {
+    if script.is_declared(device.number) {
         None
     } else {
         Some(Told::Declares(device))
@@ -102,34 +102,34 @@ fn own_device(declared: &[DeviceLine], device: DeviceLine) -> Option<Told>
 #[tactic(auto, unfolding(crate::specs::Grammar::told_by_words))]
 fn told_by_words(
     alloc: Global,
-    declared: &[DeviceLine],
+    script: &Script,
     words: &[&[u8]],
 ) -> Result<Option<Told>, AllocError>
     ensures told { IfOk result (λ told. let words = map (λ word. word.now) words.now in told
-        ≡ told_by_words declared.now (device_in words) words) }
-    ensures in_range { IfOk result (λ told. IfSome told (IsInRange declared.now)) }
+        ≡ told_by_words script.now.devices (device_in words) words) }
+    ensures in_range { IfOk result (λ told. IfSome told (IsInRange script.now.devices)) }
 {
     match device(words) {
-        Some(device) => Ok(own_device(declared, device)),
-        None => match event(alloc, declared, words)? {
+        Some(device) => Ok(own_device(script, device)),
+        None => match event(alloc, script, words)? {
             Some(event) => Ok(Some(Told::Happens(event))),
             None => Ok(None),
         },
     }
 }
 
-/// What a line tells, where these devices are declared before it.
+/// What a line tells, where the script is what stands before it.
 ///
 /// # Errors
 /// Want of memory.
 #[tactic(auto, unfolding(crate::specs::Grammar::told_by, crate::specs::Grammar::told_by_text))]
 pub(crate) fn told_line(
     alloc: Global,
-    declared: &[DeviceLine],
+    script: &Script,
     line: &[u8],
 ) -> Result<Option<Told>, AllocError>
-    ensures told { IfOk result (λ told. told ≡ told_by declared.now line.now) }
-    ensures in_range { IfOk result (λ told. IfSome told (IsInRange declared.now)) }
+    ensures told { IfOk result (λ told. told ≡ told_by script.now.devices line.now) }
+    ensures in_range { IfOk result (λ told. IfSome told (IsInRange script.now.devices)) }
 {
     if is_passed_over(line) {
         return Ok(Some(Told::Nothing));
@@ -141,7 +141,7 @@ pub(crate) fn told_line(
         },
         None => {
             let words = words(alloc, line)?;
-            told_by_words(alloc, declared, words.as_slice())
+            told_by_words(alloc, script, words.as_slice())
         }
     }
 }

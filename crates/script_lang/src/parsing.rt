@@ -120,7 +120,7 @@ pub fn parse(alloc: Global, text: &[u8]) -> Result<Script, ScriptFault>
     while !rest.is_empty() {
         number += 1;
         let (line, after) = first_line(rest);
-        match told_line(alloc, script.devices(), line)? {
+        match told_line(alloc, &script, line)? {
             Some(told) => add_told(&mut script, told)?,
             None => return Err(ScriptFault::BadLine(number)),
         }

@@ -22,6 +22,7 @@ use event_data::WorldEvent;
 use rule_model::DeviceLine;
 use schc_bits::ItemList;
 use std::alloc::{AllocError, Global};
+use std::collections::HashSet;
 use std::marker::Model;
 
 /// An event of a device. A publication is one of every device, and has the number 0 here.
@@ -41,39 +42,27 @@ impl Model for ScriptEvent {
 }
 
 /// A script: the devices that it declares, at most 1,024 with numbers of their own, and what
-/// happens, at
-/// most 200,000 events. Each script can be spelled.
+/// happens, at most 200,000 events. Each script can be spelled.
+///
+/// Beside the devices it keeps their numbers as a set, so that it knows without a walk through the
+/// list whether a device is declared.
 #[derive(Drop)]
 pub struct Script {
     devices: ItemList<DeviceLine>,
+    numbers: HashSet<u16>,
     events: ItemList<ScriptEvent>,
 }
 
 impl Model for Script {
-    ghost use Rattle.std.specs.Prelude.{◌≤◌, length};
     ghost use Rattle.script_lang.specs.ScriptData.{ScriptData};
-    ghost use Rattle.script_lang.specs.Ranges.{
-      max_devices,
-      max_events,
-      HaveParams,
-      HaveOwnNumbers,
-      HandBytes,
-      AreDeclared,
-      HaveSpellings,
-    };
+    ghost use Rattle.script_lang.specs.Ranges.{InRange, AreNumbersOf};
 
     ghost Value = { ScriptData };
 
     ghost view = { λ s. record { devices = s.devices.items; events = s.events.items } };
 
     ghost invariant = { λ s.
-        HaveParams s.devices.items
-        × HaveOwnNumbers s.devices.items
-        × (length s.devices.items ≤ max_devices)
-        × HandBytes s.events.items
-        × AreDeclared s.devices.items s.events.items
-        × HaveSpellings s.events.items
-        × (length s.events.items ≤ max_events) };
+        InRange s.devices.items s.events.items × AreNumbersOf s.numbers s.devices.items };
 }
 
 impl Script {
@@ -83,6 +72,7 @@ impl Script {
     {
         Script {
             devices: ItemList::new(alloc),
+            numbers: HashSet::new(alloc),
             events: ItemList::new(alloc),
         }
     }
@@ -108,6 +98,13 @@ impl Script {
         self.events.as_slice()
     }
 
+    /// Whether a device with this number is declared.
+    pub fn is_declared(&self, number: u16) -> bool
+        ensures { result ≡ is_declared self.now.devices number }
+    {
+        self.numbers.contains(&number)
+    }
+
     /// Declares one more device.
     ///
     /// # Errors
@@ -116,11 +113,14 @@ impl Script {
         requires own_number { is_declared self.old.devices line.number ≡ false }
         requires in_range { IsParams line.params }
         requires few { length self.old.devices < max_devices }
-        ensures declared { OnOk result (self.new ≡ record self.old { devices = self.old.devices ++ line ∷ [] }) }
+        ensures declared { OnOk result
+            (self.new ≡ record self.old { devices = self.old.devices ++ line ∷ [] }) }
         ensures same { OnErr result (self.new ≡ self.old) }
         ensures bytes { HandBytes self.new.events }
     {
-        self.devices.push(line)?;
+        self.devices.reserve(1)?;
+        self.numbers.insert(line.number)?;
+        self.devices.put(line);
         Ok(())
     }
 

@@ -18,7 +18,16 @@ fn scripts(rt: HostRuntime) -> Result<(), Fail> {
     assert_eq!(rt; counts(&rt, b""), Ok((0, 0)));
     assert_eq!(rt; counts(&rt, b"\n#\xff\n"), Ok((0, 0)));
     let text = format!(in rt.alloc();
-        "{DEVICE} mtu 15\nhand 7 dev 0aFF\nslot 7 gw\ndeliver 7 up 18446744073709551615\noffer 7 gw 0\nallow 7 dev 4294967295\ntick 7 dev\ntick 7 gw\ntick 7 both\nabort 7 dev"
+        "{DEVICE} mtu 15
+hand 7 dev 0aFF
+slot 7 gw
+deliver 7 up 18446744073709551615
+offer 7 gw 0
+allow 7 dev 4294967295
+tick 7 dev
+tick 7 gw
+tick 7 both
+abort 7 dev"
     )?;
     assert_eq!(rt; counts(&rt, text.as_bytes()), Ok((1, 9)));
     Ok(())
@@ -62,6 +71,35 @@ fn as_many_devices_as_may_be(rt: HostRuntime) -> Result<(), Fail> {
         counts(&rt, again.as_bytes()),
         Err(ScriptFault::BadLine(1025))
     );
+    Ok(())
+}
+
+/// Whether the script of a text declares this number.
+fn declared(rt: &HostRuntime, text: &str, number: u16) -> Result<bool, ScriptFault> {
+    let script = parse(rt.alloc(), text.as_bytes())?;
+    Ok(script.is_declared(number))
+}
+
+#[test]
+fn declared_numbers(rt: HostRuntime) -> Result<(), Fail> {
+    let ends = "device 65535 0000000000000001 0000000000000002
+device 0 0000000000000001 0000000000000002";
+    let many = many_devices(&rt, 1024, "")?;
+    let cases: [(&str, u16, bool); 10] = [
+        ("", 0, false),
+        ("", 65535, false),
+        (ends, 0, true),
+        (ends, 1, false),
+        (ends, 65534, false),
+        (ends, 65535, true),
+        (many.as_str(), 0, true),
+        (many.as_str(), 1023, true),
+        (many.as_str(), 1024, false),
+        (many.as_str(), 65535, false),
+    ];
+    for (text, number, expected) in cases {
+        assert_eq!(rt; declared(&rt, text, number), Ok(expected));
+    }
     Ok(())
 }
 

@@ -5,7 +5,15 @@ ghost use Rattle.std.specs.List.{list_all, position};
 ghost use Rattle.std.specs.Char.{is_ascii_digit};
 ghost use Rattle.std.specs.Option.{option_map};
 ghost use Rattle.schc_bits.specs.Bits.{AreBytes};
-ghost use Rattle.script_lang.specs.Text.{is_line_feed, lines_of, words_of, is_numeral, number_of, packet_in, iid_of};
+ghost use Rattle.script_lang.specs.Text.{
+  is_line_feed,
+  lines_of,
+  words_of,
+  is_numeral,
+  number_of,
+  packet_in,
+  iid_of,
+};
 
 use hex::{FromHex, FromHexError};
 use std::alloc::{AllocError, Global};

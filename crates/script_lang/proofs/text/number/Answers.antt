@@ -12,4 +12,6 @@ returns-in-Ok c =
 
 -- a numeral is text
 pub returns-in-Err : goal.returns-in-Err
-returns-in-Err c = absurd (c.in-Err.ensures.cases.0 (IsUtf8-numeral c.args.word.now (sym c.if-not-is_numeral.ensures)))
+returns-in-Err c =
+    absurd (c.in-Err.ensures.cases.0
+    (IsUtf8-numeral c.args.word.now (sym c.if-not-is_numeral.ensures)))

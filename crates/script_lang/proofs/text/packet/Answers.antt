@@ -4,4 +4,5 @@ use Rattle.script_lang.proofs.text.packet.Goals as goal
 
 pub returns-else-is_empty-clause-in_range : goal.returns-else-is_empty-clause-in_range
 returns-else-is_empty-clause-in_range c =
-    AreBytes-from_each c.in-Ok.bytes.items (decode_of-ok c.args.word.now c.in-Ok.bytes.items c.in-Ok.ensures.ok).3
+    AreBytes-from_each c.in-Ok.bytes.items
+    (decode_of-ok c.args.word.now c.in-Ok.bytes.items c.in-Ok.ensures.ok).3

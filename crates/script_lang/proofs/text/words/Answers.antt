@@ -6,4 +6,6 @@ use Rattle.script_lang.proofs.text.words.Goals as goal
 
 pub returns : goal.returns
 returns c =
-    map_from_collect _ c.collect.ensures.ran (YieldsList-from_slice_split _ is_space c.args.line.now c.split.ensures.rest c.split.ensures.done c.split.ensures.closure (λ x b q h. search rules))
+    map_from_collect _ c.collect.ensures.ran
+    (YieldsList-from_slice_split _ is_space c.args.line.now c.split.ensures.rest
+    c.split.ensures.done c.split.ensures.closure (λ x b q h. search rules))

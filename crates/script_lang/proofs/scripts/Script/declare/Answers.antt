@@ -1,14 +1,15 @@
 use Rattle.std.proofs.Common.{sym}
-use Rattle.script_lang.proofs.RangesLemmas.{declared-one}
+use Rattle.script_lang.proofs.RangesLemmas.{declared_one, numbers_one}
 use Rattle.script_lang.proofs.scripts.Script.declare.Goals as goal
-
-pub invariant_of-self : goal.invariant_of-self
-invariant_of-self c = rw (c.in_err-push.ensures.err) c.self.invariant
 
 pub invariant_of-self-2 : goal.invariant_of-self-2
 invariant_of-self-2 c =
     let new = rw (sym c.self.view_is) at c.requires.own_number in
     let few = rw (sym c.self.view_is) at c.requires.few in
-    rw (c.in_ok-push.ensures.ok)
-    (declared-one c.self.inside.devices.items c.self.inside.events.items c.args.line new
-    c.requires.in_range few c.self.invariant)
+    let devices = c.self.inside.devices.items in
+    rw (c.put.ensures.items, c.reserve.ensures.items) (
+      declared_one devices c.self.inside.events.items c.args.line new c.requires.in_range few
+          c.self.invariant.0,
+      numbers_one c.self.inside.numbers c.insert.new.self devices c.args.line
+          c.in_ok-insert.ensures.updates c.self.invariant.1,
+    )
