@@ -1,5 +1,7 @@
--- The load of a number: a script of some devices, each of which hands down three packets, made of pseudo-random draws.
-use Rattle.std.specs.Prelude.{ℕ, zero, suc, ◌+◌, ◌-◌, ◌*◌, ◌/◌, ◌%◌, ◌^◌, ◌==◌, nat_le, Bool, true, if◌then◌else◌, List, [], ◌∷◌}
+-- The load of a number: a script of some devices, each of which hands down three packets, made of
+-- pseudo-random draws.
+use Rattle.std.specs.Prelude.{ℕ, zero, suc, ◌+◌, ◌-◌, ◌*◌, ◌/◌, ◌%◌, ◌^◌, ◌==◌, nat_le, Bool, true}
+use Rattle.std.specs.Prelude.{if◌then◌else◌, List, [], ◌∷◌}
 use Rattle.std.specs.Prelude.{◌++◌, map, flat_map, slice_index}
 use Rattle.std.specs.Int.{to_be_bytes}
 use mir.Syntax.{w16, w64}
@@ -19,7 +21,7 @@ below (suc n) = below n ++ n ∷ []
 
 -- ---- draws
 
--- a linear congruential generator with 31 bits; a draw is the first 15 of them
+-- a linear congruential generator with 31 bits; a draw is the highest 15 of them
 abbrev pub next_state : ℕ → ℕ
 next_state x = (1103515245 * x + 12345) % 2 ^ 31
 
@@ -68,7 +70,8 @@ link_local = 0xfe ∷ 0x80 ∷ 0 ∷ 0 ∷ 0 ∷ 0 ∷ 0 ∷ 0 ∷ []
 unfoldable pub payload : ℕ → ℕ → List ℕ
 payload draw size = map (λ i. (draw + i) % 256) (below size)
 
--- a packet of IPv6 without a header of a layer above: next header 59, hop limit 64 (RFC 8200, sections 3 and 4.7)
+-- a packet of IPv6 without a header of a layer above: next header 59, hop limit 64 (RFC 8200,
+-- sections 3 and 4.7)
 unfoldable pub load_packet : ℕ → ℕ → List ℕ
 load_packet device draw =
     (0x60 ∷ 0 ∷ 0 ∷ 0 ∷ []) ++ (to_be_bytes w16 (packet_size draw - 40)
@@ -77,7 +80,7 @@ load_packet device draw =
 
 -- ---- what happens to a packet
 
--- the frames in which a session sends a packet, with one more: its tiles have 10 bytes, and a frame has 5 of them
+-- the frames of a session: one for each five of its tiles of 10 bytes but the last, and the All-1
 unfoldable pub pieces : ℕ → ℕ
 pieces draw = ((packet_size draw + 1 + 9) / 10 - 1 + 4) / 5 + 1
 
@@ -100,7 +103,8 @@ at device event = record { device = device; event = event }
 unfoldable pub frames_up : ℕ → ℕ → ℕ → List ScriptEventData
 frames_up device number zero = []
 frames_up device number (suc count) =
-    at device (Slot Device) ∷ at device (Deliver way.Up number) ∷ frames_up device (number + 1) count
+    at device (Slot Device) ∷ at device (Deliver way.Up number) ∷ frames_up device (number + 1)
+    count
 
 -- where the draw is divisible by 4, the frame with this number arrives once more
 abbrev pub repeated : ℕ → ℕ → ℕ → List ScriptEventData
@@ -108,12 +112,14 @@ repeated device draw number = if draw % 4 == 0 then at device (Deliver way.Up nu
 
 -- the packet goes up in one frame
 unfoldable pub in_one_frame : ℕ → ℕ → Frames → List ScriptEventData
-in_one_frame device draw frames = frames_up device (frames.up + 1) 1 ++ repeated device draw (frames.up + 1)
+in_one_frame device draw frames =
+    frames_up device (frames.up + 1) 1 ++ repeated device draw (frames.up + 1)
 
 -- a session is answered by the frame with this number, and two ticks pass
 unfoldable pub session_answered : ℕ → ℕ → List ScriptEventData
 session_answered device number =
-    at device (Slot Gateway) ∷ at device (Deliver way.Down number) ∷ at device (Tick Both) ∷ at device (Tick Both) ∷ []
+    at device (Slot Gateway) ∷ at device (Deliver way.Down number) ∷ at device (Tick Both) ∷ at
+    device (Tick Both) ∷ []
 
 -- the packet goes up as a session
 unfoldable pub in_pieces : ℕ → ℕ → Frames → List ScriptEventData
@@ -123,7 +129,9 @@ in_pieces device draw frames =
 -- the events of a device and of one draw, after these frames
 unfoldable pub turn : ℕ → ℕ → Frames → List ScriptEventData
 turn device draw frames =
-    at device (Down Device (load_packet device draw)) ∷ (if fits_frame draw then in_one_frame device draw frames else in_pieces
+    at device
+    (Down Device (load_packet device draw)) ∷ (if fits_frame draw then in_one_frame device draw
+    frames else in_pieces
     device draw frames)
 
 -- ---- rounds
@@ -140,7 +148,8 @@ frames_before all devices device (suc round) = more_frames (frames_before all de
 
 -- the events of a device in a round
 abbrev pub turn_at : List ℕ → ℕ → ℕ → ℕ → List ScriptEventData
-turn_at all devices round device = turn device (draw_at all devices round device) (frames_before all devices device round)
+turn_at all devices round device =
+    turn device (draw_at all devices round device) (frames_before all devices device round)
 
 -- the events of a round
 abbrev pub round_of : List ℕ → ℕ → ℕ → List ScriptEventData

@@ -16,7 +16,7 @@ ghost use Rattle.std.specs.Prelude.{
   OnOk,
 };
 ghost use Rattle.schc_ids.specs.Params.{IsParams};
-ghost use Rattle.script_lang.specs.Ranges.{max_events};
+ghost use Rattle.script_lang.specs.Ranges.{max_events, HandBytes};
 ghost use Rattle.load_maker.specs.Load.{below, load_device, round_of, draws, load, rounds};
 
 use crate::draws::draws;
@@ -129,19 +129,19 @@ fn add_rounds(
 }
 
 /// The load of a number: a script of so many devices, each of which hands down three packets of 40
-/// to 200
-/// bytes, made of draws of a linear congruential generator that begins with `start`. It sends each
-/// in one
-/// frame or in a session, and all frames arrive.
+/// to 200 bytes, made of draws of a linear congruential generator that begins with `start`. Each is
+/// sent in one frame or in a session, and each frame is delivered.
 ///
 /// # Errors
 /// Want of memory.
+#[tactic(auto, using(crate::proofs::BytesLemmas::load_bytes))]
 pub fn make_load(alloc: Global, devices: u16, start: u32) -> Result<Script, AllocError>
     requires least { 1 ≤ devices }
     requires most { devices ≤ 1024 }
     requires start { start < 2 ^ 31 }
     ensures load { IfOk result (λ script. script ≡ load devices start) }
     ensures few { IfOk result (λ script. length script.events ≤ 46080) }
+    ensures bytes { IfOk result (λ script. HandBytes script.events) }
 {
     let draws = draws(alloc, usize::from(ROUNDS) * usize::from(devices), start)?;
     let mut script = Script::new(alloc);
