@@ -10,6 +10,8 @@ mod fragments;
 #[cfg(test)]
 mod lines;
 #[cfg(test)]
+mod loads;
+#[cfg(test)]
 mod packets;
 #[cfg(test)]
 mod rules;

@@ -8,21 +8,25 @@ use Rattle.event_data.specs.Events.{Publish}
 use Rattle.two_ends.specs.World.{WorldData, step, publish_step, last_edition}
 use Rattle.gw_top.specs.Run.{line_of, chain_with, published_line}
 
-line-by : (w : WorldData) (made : Result EditionData Finding) → line_of (publish_step w made).1 ≡ published_line made
+line-by : (w : WorldData) (made : Result EditionData Finding)
+    → line_of (publish_step w made).1 ≡ published_line made
 unfolding publish_step
 line-by w (Ok edition) = refl
 line-by w (Err finding) = refl
 
-chain-by : (w : WorldData) (made : Result EditionData Finding) → (publish_step w made).0.chain ≡ chain_with w.chain made
+chain-by : (w : WorldData) (made : Result EditionData Finding)
+    → (publish_step w made).0.chain ≡ chain_with w.chain made
 unfolding publish_step
 chain-by w (Ok edition) = refl
 chain-by w (Err finding) = refl
 
 -- the outcome is the chain's
-pub publish_line : (w : WorldData) (raw : RawEditionData) → line_of (step w (Publish raw)).1 ≡ published_line (published (last_edition w.chain) raw)
+pub publish_line : (w : WorldData) (raw : RawEditionData)
+    → line_of (step w (Publish raw)).1 ≡ published_line (published (last_edition w.chain) raw)
 unfolding step
 publish_line w raw = line-by w (published (last_edition w.chain) raw)
 
-pub publish_chain : (w : WorldData) (raw : RawEditionData) → (step w (Publish raw)).0.chain ≡ chain_with w.chain (published (last_edition w.chain) raw)
+pub publish_chain : (w : WorldData) (raw : RawEditionData)
+    → (step w (Publish raw)).0.chain ≡ chain_with w.chain (published (last_edition w.chain) raw)
 unfolding step
 publish_chain w raw = chain-by w (published (last_edition w.chain) raw)

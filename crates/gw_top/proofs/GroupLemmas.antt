@@ -1,14 +1,15 @@
 -- Groups of devices and their shares, one after the other.
-use Rattle.std.proofs.Common.{ℕ, zero, suc, ◌≡◌, ◌+◌, ◌-◌, ◌*◌, ◌/◌, ◌%◌, ◌<◌, ◌≤◌, List, [], ◌∷◌, ◌++◌, length, map, take, drop, All, slice_index_or, Option, Some, None, option_map, Result, Ok, Err, Vec, refl, sym, ap, ◌∙◌, subst, arith, cond, Bool, true, false, nat_lt}
+use Rattle.std.proofs.Common.{ℕ, zero, suc, ◌≡◌, ◌+◌, ◌-◌, ◌*◌, ◌/◌, ◌%◌, ◌<◌, ◌≤◌, List, [], ◌∷◌}
+use Rattle.std.proofs.Common.{◌++◌, length, map, take, drop, All, slice_index_or, Option, Some}
+use Rattle.std.proofs.Common.{None, option_map, Result, Ok, Err, Vec, refl, sym, ap, ◌∙◌, subst}
+use Rattle.std.proofs.Common.{arith, cond, Bool, true, false, nat_lt}
 use Rattle.std.specs.List.{AllByRecursion}
 use Rattle.std.specs.Borrow.{Bor}
 use Rattle.std.proofs.lemmas.Bool.{ltb-true, ltb-false}
 use Rattle.std.proofs.lemmas.List.{map-append, append-nil, append_assoc, take-append-drop}
 use Rattle.rule_model.specs.declared.raw.DeviceLine.{DeviceLine}
 use Rattle.event_data.specs.declared.outcomes.Line.{Line}
-use Rattle.script_lang.specs.ScriptData.{ScriptEventData}
 use Rattle.script_lang.specs.Ranges.{HaveParams}
-use Rattle.gw_top.specs.Shares.{share_of}
 use Rattle.gw_top.specs.Groups.{joined, IsEven, IsShared, shares_in}
 
 -- what holds of each item holds at each place
@@ -22,9 +23,11 @@ abbrev pub now_of : Bor (List DeviceLine) → List DeviceLine
 now_of group = group.now
 
 -- one more group behind the others
-pub joined_last : (groups : List (List DeviceLine)) (group : List DeviceLine) → joined (groups ++ group ∷ []) ≡ joined groups ++ group
+pub joined_last : (groups : List (List DeviceLine)) (group : List DeviceLine)
+    → joined (groups ++ group ∷ []) ≡ joined groups ++ group
 joined_last [] group = append-nil group
-joined_last (first ∷ groups) group = ap (λ rest. first ++ rest) (joined_last groups group) ∙ assoc first (joined groups) group
+joined_last (first ∷ groups) group = ap (λ rest. first ++ rest) (joined_last groups group)
+    ∙ assoc first (joined groups) group
   where
     assoc : (xs ys zs : List DeviceLine) → xs ++ (ys ++ zs) ≡ (xs ++ ys) ++ zs
     assoc [] ys zs = refl
@@ -34,38 +37,48 @@ params-front : (xs ys : List DeviceLine) → HaveParams (xs ++ ys) → HaveParam
 params-front [] ys all = (tt, all)
 params-front (x ∷ xs) ys all = let rest = params-front xs ys all.1 in ((all.0, rest.0), rest.1)
 
-params-each : (groups : List (Bor (List DeviceLine))) → HaveParams (joined (map now_of groups)) → AllByRecursion (λ (group : Bor (List DeviceLine)). HaveParams group.now) groups
+params-each : (groups : List (Bor (List DeviceLine))) → HaveParams (joined (map now_of groups))
+    → AllByRecursion (λ (group : Bor (List DeviceLine)). HaveParams group.now) groups
 params-each [] all = tt
 params-each (group ∷ groups) all =
     let parts = params-front group.now (joined (map now_of groups)) all in
     (parts.0, params-each groups parts.1)
 
 -- the devices of each group have parameters that ends may be made with, as all have
-pub group_params : (groups : List (Bor (List DeviceLine))) (devices : List DeviceLine) → joined (map now_of groups) ≡ devices → HaveParams devices → All (λ (group : Bor (List DeviceLine)). HaveParams group.now) groups
+pub group_params : (groups : List (Bor (List DeviceLine))) (devices : List DeviceLine)
+    → joined (map now_of groups) ≡ devices → HaveParams devices
+    → All (λ (group : Bor (List DeviceLine)). HaveParams group.now) groups
 group_params groups devices all range =
-    all_index (λ (group : Bor (List DeviceLine)). HaveParams group.now) groups (params-each groups (subst HaveParams (sym all) range))
+    all_index (λ (group : Bor (List DeviceLine)). HaveParams group.now) groups
+    (params-each groups (subst HaveParams (sym all) range))
 
 -- what all groups have, where the others are read
-behind : (events : List ScriptEventData) (group others : List DeviceLine) (shares all : List (ℕ × List Line)) (made : Option (List (ℕ × List Line)))
-    → shares ≡ map (share_of events) group → ((rest : List (ℕ × List Line)) → made ≡ Some rest → rest ≡ map (share_of events) others)
-    → option_map (λ rest. shares ++ rest) made ≡ Some all → all ≡ map (share_of events) (group ++ others)
-behind events group others shares all None first later whole = absurd (cc)
-behind events group others shares all (Some rest) first later whole =
+behind : (share : DeviceLine → ℕ × List Line) (group others : List DeviceLine)
+    (shares all : List (ℕ × List Line)) (made : Option (List (ℕ × List Line)))
+    → shares ≡ map share group
+    → ((rest : List (ℕ × List Line)) → made ≡ Some rest → rest ≡ map share others)
+    → option_map (λ rest. shares ++ rest) made ≡ Some all → all ≡ map share (group ++ others)
+behind share group others shares all None first later whole = absurd (cc)
+behind share group others shares all (Some rest) first later whole =
     same all (shares ++ rest) whole
     ∙ ap (λ front. front ++ rest) first
-    ∙ ap (λ back. map (share_of events) group ++ back) (later rest refl)
-    ∙ sym (map-append (share_of events) group others)
+    ∙ ap (λ back. map share group ++ back) (later rest refl)
+    ∙ sym (map-append share group others)
   where
     same : (xs ys : List (ℕ × List Line)) → Some ys ≡ Some xs → xs ≡ ys
     same xs ys h = cc
 
-module _ {A E : Type 0} (events : List ScriptEventData) where
-  abbrev pub Shared : List (Bor (List DeviceLine)) → List (Result (Vec (ℕ × List Line) A) E) → Type 0
-  Shared groups made = (i : ℕ) (g : Bor (List DeviceLine)) (m : Result (Vec (ℕ × List Line) A) E) → i < length groups → IsShared events (slice_index_or groups i g).now (slice_index_or made i m)
+module _ {A E : Type 0} (share : DeviceLine → ℕ × List Line) where
+  abbrev pub Shared : List (Bor (List DeviceLine)) → List (Result (Vec (ℕ × List Line) A) E)
+      → Type 0
+  Shared groups made = (i : ℕ) (g : Bor (List DeviceLine)) (m : Result (Vec (ℕ × List Line) A) E)
+      → i < length groups → IsShared share (slice_index_or groups i g).now (slice_index_or made i m)
 
   -- the shares of all groups are those of all devices
-  pub all_shared : (groups : List (Bor (List DeviceLine))) (made : List (Result (Vec (ℕ × List Line) A) E)) (all : List (ℕ × List Line)) → length made ≡ length groups → Shared groups made
-      → shares_in made ≡ Some all → all ≡ map (share_of events) (joined (map now_of groups))
+  pub all_shared : (groups : List (Bor (List DeviceLine)))
+      (made : List (Result (Vec (ℕ × List Line) A) E)) (all : List (ℕ × List Line))
+      → length made ≡ length groups → Shared groups made
+      → shares_in made ≡ Some all → all ≡ map share (joined (map now_of groups))
   all_shared [] [] all same each whole = none all whole
     where
       none : (xs : List (ℕ × List Line)) → Some [] ≡ Some xs → xs ≡ []
@@ -73,15 +86,18 @@ module _ {A E : Type 0} (events : List ScriptEventData) where
   all_shared [] (m ∷ made) all same each whole = absurd (omega arith)
   all_shared (group ∷ groups) [] all same each whole = absurd (omega arith)
   all_shared (group ∷ groups) (Ok shares ∷ made) all same each whole =
-      behind events group.now (joined (map now_of groups)) shares.items all (shares_in made) (each 0 group (Ok shares) (omega arith))
-      (λ rest is. all_shared groups made rest (omega arith) (λ i g m less. each (suc i) g m (omega arith)) is) whole
+      behind share group.now (joined (map now_of groups)) shares.items all (shares_in made)
+      (each 0 group (Ok shares) (omega arith))
+      (λ rest is. all_shared groups made rest (omega arith)
+      (λ i g m less. each (suc i) g m (omega arith)) is) whole
   all_shared (group ∷ groups) (Err fault ∷ made) all same each whole = absurd (cc)
 
 -- what is left for one more group
 mul-more : (k size : ℕ) → (k + 1) * size ≡ k * size + size
 mul-more k size = grind arith
 
-extra : (place longer : ℕ) (b : Bool) → nat_lt place longer ≡ b → longer - place ≡ (longer - (place + 1)) + cond b 1 0
+extra : (place longer : ℕ) (b : Bool) → nat_lt place longer ≡ b
+    → longer - place ≡ (longer - (place + 1)) + cond b 1 0
 extra place longer true is = let less : place < longer = ltb-true place longer is in omega arith
 extra place longer false is = let past : longer ≤ place = ltb-false place longer is in omega arith
 
@@ -95,19 +111,26 @@ cut_less workers place size longer less =
     ap (λ k. k * size + (longer - place)) step ∙ omega (arith, parts, more)
 
 -- one more group of the right size
-even_last : (size : ℕ) (groups : List (Bor (List DeviceLine))) (group : Bor (List DeviceLine)) → AllByRecursion (λ (g : Bor (List DeviceLine)). IsEven size g.now) groups → IsEven size group.now
+even_last : (size : ℕ) (groups : List (Bor (List DeviceLine))) (group : Bor (List DeviceLine))
+    → AllByRecursion (λ (g : Bor (List DeviceLine)). IsEven size g.now) groups
+    → IsEven size group.now
     → AllByRecursion (λ (g : Bor (List DeviceLine)). IsEven size g.now) (groups ++ group ∷ [])
 even_last size [] group all one = (one, tt)
 even_last size (first ∷ groups) group all one = (all.0, even_last size groups group all.1 one)
 
-pub even_step : (size : ℕ) (groups more : List (Bor (List DeviceLine))) (group : Bor (List DeviceLine)) → more ≡ groups ++ group ∷ []
-    → AllByRecursion (λ (g : Bor (List DeviceLine)). IsEven size g.now) groups → IsEven size group.now → AllByRecursion (λ (g : Bor (List DeviceLine)). IsEven size g.now) more
+pub even_step : (size : ℕ) (groups more : List (Bor (List DeviceLine)))
+    (group : Bor (List DeviceLine)) → more ≡ groups ++ group ∷ []
+    → AllByRecursion (λ (g : Bor (List DeviceLine)). IsEven size g.now) groups
+    → IsEven size group.now → AllByRecursion (λ (g : Bor (List DeviceLine)). IsEven size g.now) more
 even_step size groups more group pushed all one =
-    subst (AllByRecursion (λ (g : Bor (List DeviceLine)). IsEven size g.now)) (sym pushed) (even_last size groups group all one)
+    subst (AllByRecursion (λ (g : Bor (List DeviceLine)). IsEven size g.now)) (sym pushed)
+    (even_last size groups group all one)
 
 -- the groups and what is left stay the devices, where the front of what is left is one more group
-pub joined_step : (groups more : List (Bor (List DeviceLine))) (group : Bor (List DeviceLine)) (left back devices : List DeviceLine) (n : ℕ) → more ≡ groups ++ group ∷ []
-    → group.now ≡ take n left → back ≡ drop n left → joined (map now_of groups) ++ left ≡ devices → joined (map now_of more) ++ back ≡ devices
+pub joined_step : (groups more : List (Bor (List DeviceLine))) (group : Bor (List DeviceLine))
+    (left back devices : List DeviceLine) (n : ℕ) → more ≡ groups ++ group ∷ []
+    → group.now ≡ take n left → back ≡ drop n left → joined (map now_of groups) ++ left ≡ devices
+    → joined (map now_of more) ++ back ≡ devices
 joined_step groups more group left back devices n pushed front behind_it all =
     ap (λ gs. joined (map now_of gs) ++ back) pushed
     ∙ ap (λ lists. joined lists ++ back) (map-append now_of groups (group ∷ []))

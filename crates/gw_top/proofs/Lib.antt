@@ -1,6 +1,9 @@
+pub mod InputLemmas
 pub mod FaultLemmas
 pub mod ChainLemmas
 pub mod QueueLemmas
 pub mod MergeLemmas
+pub mod DealingLemmas
 pub mod GroupLemmas
 pub mod RunLemmas
+pub mod GrammarLemmas

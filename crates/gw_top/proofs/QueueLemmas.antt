@@ -2,15 +2,20 @@
 use Rattle.std.proofs.Common.{◌≡◌, List, [], ◌∷◌, ◌++◌, Option, Some, None, IfSome, subst, sym}
 use Rattle.std.specs.List.{AllByRecursion}
 use Rattle.event_data.specs.declared.outcomes.Line.{Line}
-use Rattle.gw_top.specs.Shares.{IsSaid}
+use Rattle.transcripts.specs.Lines.{IsSaid}
 
-pub said_last : (lines : List Line) (line : Line) → AllByRecursion IsSaid lines → IsSaid line → AllByRecursion IsSaid (lines ++ line ∷ [])
+pub said_last : (lines : List Line) (line : Line) → AllByRecursion IsSaid lines → IsSaid line
+    → AllByRecursion IsSaid (lines ++ line ∷ [])
 said_last [] line all one = (one, tt)
 said_last (first ∷ lines) line all one = (all.0, said_last lines line all.1 one)
 
-pub said_first : (lines : List Line) (line : Line) (rest : List Line) → lines ≡ line ∷ rest → AllByRecursion IsSaid lines → IsSaid line × AllByRecursion IsSaid rest
+pub said_first : (lines : List Line) (line : Line) (rest : List Line) → lines ≡ line ∷ rest
+    → AllByRecursion IsSaid lines → IsSaid line × AllByRecursion IsSaid rest
 said_first lines line rest same all = subst (AllByRecursion IsSaid) same all
 
-pub said_more : (lines more : List Line) (line : Line) (result : Option Line) → more ≡ lines ++ line ∷ [] → result ≡ Some line → IfSome result IsSaid → AllByRecursion IsSaid lines → AllByRecursion IsSaid more
+pub said_more : (lines more : List Line) (line : Line) (result : Option Line)
+    → more ≡ lines ++ line ∷ [] → result ≡ Some line → IfSome result IsSaid
+    → AllByRecursion IsSaid lines → AllByRecursion IsSaid more
 said_more lines more line result pushed found one all =
-    subst (AllByRecursion IsSaid) (sym pushed) (said_last lines line all (subst (λ r. IfSome r IsSaid) found one))
+    subst (AllByRecursion IsSaid) (sym pushed)
+    (said_last lines line all (subst (λ r. IfSome r IsSaid) found one))

@@ -1,7 +1,10 @@
 pub mod Words
 pub mod Run
 pub mod Shares
+pub mod Turns
+pub mod Dealing
 pub mod Merging
 pub mod Groups
 pub mod Output
 pub mod Answers
+pub mod Grammar

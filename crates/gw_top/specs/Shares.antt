@@ -5,18 +5,11 @@ use Rattle.rule_model.specs.declared.raw.DeviceLine.{DeviceLine}
 use Rattle.editions.specs.Data.{EditionData}
 use Rattle.publishing.specs.Published.{published}
 use Rattle.event_data.specs.Events.{Event, Down, Slot, Deliver, Tick, Abort, Publish, Offer, Allow}
-use Rattle.event_data.specs.Outcomes.{IsRefusal, IsNote, IsLineOf}
+use Rattle.event_data.specs.Outcomes.{IsLineOf}
 use Rattle.event_data.specs.declared.outcomes.Line.{Line}
-use Rattle.event_data.specs.declared.outcomes.Line.TheVariants as line
 use Rattle.two_ends.specs.World.{WorldData, beginning, step, last_edition}
 use Rattle.script_lang.specs.ScriptData.{ScriptEventData}
 use Rattle.gw_top.specs.Run.{is_publication, is_event_of, chain_next, line_of, published_line}
-
--- want of memory isn't what the line tells of
-abbrev pub IsSaid : Line → Type 0
-IsSaid (line.HandRefused fault) = IsRefusal fault
-IsSaid (line.Deliver taken) = IsNote taken.note
-IsSaid _ = Unit {0}
 
 -- the world in which nothing has happened
 unfoldable pub first_world : EndParams → WorldData
@@ -37,7 +30,8 @@ own_line number world e = if is_own number e then line_of (step world e.event).1
 -- the outcomes of the events of the device with this number, of which this is the world before them
 abbrev pub own_lines : ℕ → WorldData → List ScriptEventData → List Line
 own_lines number world [] = []
-own_lines number world (e ∷ events) = own_line number world e ++ own_lines number (world_next number world e) events
+own_lines number world (e ∷ events) =
+    own_line number world e ++ own_lines number (world_next number world e) events
 
 -- a device's number, and the outcomes of its events
 abbrev pub share_of : List ScriptEventData → DeviceLine → ℕ × List Line
@@ -51,7 +45,8 @@ published_part chain event = []
 -- the lines of the publications after this chain
 abbrev pub published_lines : List EditionData → List ScriptEventData → List Line
 published_lines chain [] = []
-published_lines chain (e ∷ events) = published_part chain e.event ++ published_lines (chain_next chain e.event) events
+published_lines chain (e ∷ events) =
+    published_part chain e.event ++ published_lines (chain_next chain e.event) events
 
 -- each event has a line that it can have
 abbrev pub AreLinesOf : List ScriptEventData → List Line → Type 0

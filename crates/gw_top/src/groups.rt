@@ -1,12 +1,15 @@
 //! Devices shared out among workers, each of which runs those of its group.
 
-ghost use Rattle.std.specs.Prelude.{◌≡◌, ◌≤◌, ◌<◌, ◌/◌, ◌+◌, ◌^◌, ◌++◌, cond, nat_lt, ℕ, length, map, vec_len, slice_index_or, Some, All, OnOk, IfOk};
+ghost use Rattle.std.specs.Prelude.{◌≡◌, ◌≤◌, ◌<◌, ◌/◌, ◌+◌, ◌^◌, ◌++◌, cond, nat_lt, ℕ, length};
+ghost use Rattle.std.specs.Prelude.{map, vec_len, slice_index_or, Some, All, OnOk, IfOk};
 ghost use Rattle.std.specs.List.{AllByRecursion};
 ghost use Rattle.script_lang.specs.Ranges.{HaveParams};
 ghost use Rattle.gw_top.specs.Words.{AreWorkers};
 ghost use Rattle.gw_top.specs.Shares.{share_of};
+ghost use Rattle.gw_top.specs.Dealing.{share_from};
 ghost use Rattle.gw_top.specs.Groups.{joined, IsEven, IsShared, shares_in};
 
+use crate::dealing::{Dealt, deal};
 use crate::queues::Queue;
 use crate::shares::shares;
 use rule_model::DeviceLine;
@@ -35,9 +38,11 @@ pub(crate) fn groups(
     workers: usize,
 ) -> Result<Vec<&[DeviceLine]>, AllocError>
     requires { AreWorkers workers }
-    ensures joined { IfOk result (λ groups. joined (map (λ group. group.now) groups.items) ≡ devices.now) }
+    ensures joined { IfOk result (λ groups.
+        joined (map (λ group. group.now) groups.items) ≡ devices.now) }
     ensures count { IfOk result (λ groups. vec_len groups ≡ workers) }
-    ensures even { IfOk result (λ groups. AllByRecursion (λ group. IsEven (length devices.now / workers) group.now) groups.items) }
+    ensures even { IfOk result (λ groups.
+        AllByRecursion (λ group. IsEven (length devices.now / workers) group.now) groups.items) }
 {
     let size = devices.len() / workers;
     let longer = devices.len() % workers;
@@ -59,19 +64,25 @@ fn by_group<R: Threads + Sync>(
     rt: &R,
     alloc: Global,
     groups: Vec<&[DeviceLine]>,
-    events: &[ScriptEvent],
+    dealt: &Dealt,
 ) -> Result<Vec<Result<Vec<(u16, Queue)>, AllocError>>, AllocError>
     requires { All (λ group. HaveParams group.now) groups.items }
     ensures count { IfOk result (λ made. vec_len made ≡ vec_len groups.entry) }
-    ensures shared { IfOk result (λ made. (i : ℕ) (group : _) (m : _) → i < vec_len groups.entry → IsShared events.now (slice_index_or groups.entry.items i group).now (slice_index_or made.items i m)) }
+    ensures shared { IfOk result (λ made.
+        (i : ℕ) (group : _) (m : _)
+        → i < vec_len groups.entry
+        → IsShared (share_from dealt.now)
+        (slice_index_or groups.entry.items i group).now
+        (slice_index_or made.items i m)) }
 {
     thread::map_vec(
         rt,
         groups,
         &|group: &[DeviceLine]| -> Result<Vec<(u16, Queue)>, AllocError>
             requires { HaveParams group.now }
-            ensures { IfOk result (λ made. made.items ≡ map (share_of events.entry.now) group.entry.now) }
-        { shares(alloc, group, events) },
+            ensures { IfOk result (λ made.
+                made.items ≡ map (share_from dealt.entry.now) group.entry.now) }
+        { shares(alloc, group, dealt) },
     )
 }
 
@@ -115,7 +126,8 @@ pub(crate) fn shared<R: Threads + Sync>(
     ensures { IfOk result (λ all. all.items ≡ map (share_of events.now) devices.now) }
 {
     let groups = groups(alloc, devices, workers)?;
-    let made = by_group(rt, alloc, groups, events)?;
+    let dealt = deal(alloc, devices, events)?;
+    let made = by_group(rt, alloc, groups, &dealt)?;
     let all = all_shares(alloc, made)?;
     Ok(all)
 }

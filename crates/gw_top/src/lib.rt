@@ -2,7 +2,9 @@
 #![tactic(auto)]
 
 mod command;
+mod dealing;
 mod groups;
+pub mod laws;
 mod merging;
 mod output;
 mod queues;

@@ -1,14 +1,15 @@
 //! Lines that wait until they are printed.
 
-ghost use Rattle.std.specs.Prelude.{◌≡◌, ◌∷◌, ◌++◌, [], OnOk, IfSome, IfNone};
-ghost use Rattle.gw_top.specs.Shares.{IsSaid};
+ghost use Rattle.std.specs.Prelude.{◌≡◌, ◌∷◌, ◌++◌, [], IfOk, OnOk, IfSome, IfNone};
+ghost use Rattle.transcripts.specs.Lines.{IsSaid};
 
 use event_data::Line;
 use std::alloc::{AllocError, Global};
 use std::collections::VecDeque;
 use std::marker::Model;
 
-/// Lines in the order of their events, none of which tells of want of memory. A contract sees them as a list.
+/// Lines in the order of their events, none of which tells of want of memory. A contract sees them
+/// as a list.
 #[derive(Drop)]
 pub(crate) struct Queue {
     lines: VecDeque<Line>,
@@ -18,7 +19,7 @@ impl Model for Queue {
     ghost use Rattle.std.specs.Prelude.{List};
     ghost use Rattle.std.specs.List.{AllByRecursion};
     ghost use Rattle.event_data.specs.declared.outcomes.Line.{Line};
-    ghost use Rattle.gw_top.specs.Shares.{IsSaid};
+    ghost use Rattle.transcripts.specs.Lines.{IsSaid};
 
     ghost Value = { List Line };
 
@@ -34,6 +35,19 @@ impl Queue {
     {
         Queue {
             lines: VecDeque::new(alloc),
+        }
+    }
+
+    /// No lines, with room for so many.
+    ///
+    /// # Errors
+    /// Want of memory.
+    pub(crate) fn with_room(alloc: Global, lines: usize) -> Result<Queue, AllocError>
+        ensures { IfOk result (λ queue. queue ≡ []) }
+    {
+        match VecDeque::with_capacity(alloc, lines) {
+            Ok(lines) => Ok(Queue { lines }),
+            Err(_) => Err(AllocError),
         }
     }
 

@@ -7,25 +7,26 @@ ghost use Rattle.event_data.specs.Events.{view_event};
 ghost use Rattle.event_data.specs.Outcomes.{IsLineOf};
 ghost use Rattle.two_ends.specs.World.{step};
 ghost use Rattle.script_lang.specs.Ranges.{HaveParams};
-ghost use Rattle.gw_top.specs.Run.{is_publication, is_event_of, chain_next, line_of};
-ghost use Rattle.gw_top.specs.Shares.{
-  IsSaid,
-  first_world,
-  is_own,
-  world_next,
-  own_line,
-  own_lines,
-  share_of,
-  published_part,
-  published_lines,
+ghost use Rattle.transcripts.specs.Lines.{IsSaid};
+ghost use Rattle.gw_top.specs.Run.{is_publication, chain_next, line_of};
+ghost use Rattle.gw_top.specs.Shares.{first_world, published_part, published_lines};
+ghost use Rattle.gw_top.specs.Dealing.{
+  seen,
+  world_after,
+  turn_step,
+  due,
+  lines_of_turns,
+  share_from,
 };
 
+use crate::dealing::{Dealt, Turn};
 use crate::queues::Queue;
 use event_data::{Line, StepFault, WorldEvent};
 use rule_model::DeviceLine;
 use schc_ids::{EndParams, Iids};
 use script_lang::ScriptEvent;
 use std::alloc::{AllocError, Global};
+use std::cmp::min;
 use two_ends::World;
 
 /// Whether an edition is published.
@@ -33,20 +34,6 @@ pub(crate) fn is_publication(event: &WorldEvent) -> bool
     ensures { result ≡ is_publication (view_event event.now) }
 {
     matches!(event, WorldEvent::Publish(_))
-}
-
-/// Whether the event is one of the world of the device with this number.
-fn is_event_of(number: u16, event: &ScriptEvent) -> bool
-    ensures { result ≡ is_event_of number event.now }
-{
-    is_publication(&event.event) || event.device == number
-}
-
-/// Whether the event is of the device with this number alone.
-fn is_own(number: u16, event: &ScriptEvent) -> bool
-    ensures { result ≡ is_own number event.now }
-{
-    !is_publication(&event.event) && event.device == number
 }
 
 /// The world in which nothing has happened.
@@ -58,8 +45,8 @@ fn first_world(alloc: Global, params: EndParams) -> Result<World, AllocError>
     World::new(alloc, params)
 }
 
-/// The event's outcome as a line: two faults have one, a frame that was never sent and an edition that
-/// the chain lacks.
+/// The event's outcome as a line: two faults have one, a frame that was never sent and an edition
+/// that the chain lacks.
 #[tactic(auto, using(crate::proofs::FaultLemmas::said))]
 fn outcome(world: &mut World, event: &WorldEvent) -> Result<Line, AllocError>
     ensures line { IfOk result (λ line. line ≡ line_of (step world.old (view_event event.now)).1) }
@@ -74,54 +61,75 @@ fn outcome(world: &mut World, event: &WorldEvent) -> Result<Line, AllocError>
     }
 }
 
-/// Lets an event of the script happen in the device's world, where it is one of that world. Its outcome
-/// goes last into the queue, where it is of the device alone.
-fn own_turn(
-    number: u16,
-    world: &mut World,
-    event: &ScriptEvent,
-    queue: &mut Queue,
-) -> Result<(), AllocError>
-    ensures world { OnOk result (world.new ≡ world_next number world.old event.now) }
-    ensures line { OnOk result (queue.new ≡ queue.old ++ own_line number world.old event.now) }
+/// Lets all these events happen in the world, without their outcomes.
+fn happen(world: &mut World, events: &[&WorldEvent]) -> Result<(), AllocError>
+    ensures { OnOk result (world.new ≡ world_after world.old (seen events.now)) }
 {
-    if !is_event_of(number, event) {
-        return Ok(());
-    }
-    let line = outcome(world, &event.event)?;
-    if is_own(number, event) {
-        queue.push(line)?;
+    for event in events {
+        let _line = outcome(world, event)?;
     }
     Ok(())
 }
 
-/// The outcomes of the events of the device with this number, from this world on.
+/// The outcome of an event before which these publications happen, which are due.
+fn turn_line(world: &mut World, due: &[&WorldEvent], event: &WorldEvent) -> Result<Line, AllocError>
+    ensures line { IfOk result (λ line.
+        line ≡ line_of (turn_step world.old (seen due.now) (view_event event.now)).1) }
+    ensures said { IfOk result IsSaid }
+    ensures world { OnOk result (
+        world.new ≡ (turn_step world.old (seen due.now) (view_event event.now)).0) }
+{
+    happen(world, due)?;
+    outcome(world, event)
+}
+
+/// The publications behind the first `done` ones, as far as the first `before` ones.
+#[tactic(auto, using(crate::proofs::DealingLemmas::due_slice))]
+fn due<'a, 'b>(
+    publications: &'a [&'b WorldEvent],
+    done: usize,
+    before: usize,
+) -> &'a [&'b WorldEvent]
+    ensures { seen result.now ≡ due (seen publications.now) done before }
+{
+    let (_, left) = publications.split_at(min(done, publications.len()));
+    let (front, _) = left.split_at(min(before.saturating_sub(done), left.len()));
+    front
+}
+
+/// The outcomes of these turns of a device, whose world this is before the first of them. Each turn
+/// comes behind as many publications as stand before it.
 fn own_lines(
     alloc: Global,
-    number: u16,
     world: &mut World,
-    events: &[ScriptEvent],
+    publications: &[&WorldEvent],
+    turns: &[Turn],
 ) -> Result<Queue, AllocError>
-    ensures { IfOk result (λ queue. queue ≡ own_lines number world.old events.now) }
+    ensures { IfOk result (λ queue.
+        queue ≡ lines_of_turns world.old (seen publications.now) 0 turns.now) }
 {
-    let mut queue = Queue::new(alloc);
-    for event in events {
-        own_turn(number, world, event, &mut queue)?;
+    let mut queue = Queue::with_room(alloc, turns.len())?;
+    let mut done = 0;
+    for turn in turns {
+        let before = turn.before;
+        let event = turn.event;
+        let line = turn_line(world, due(publications, done, before), event)?;
+        queue.push(line)?;
+        done = before;
     }
     Ok(queue)
 }
 
 /// A device's number, and the outcomes of its events.
-fn share(
-    alloc: Global,
-    device: &DeviceLine,
-    events: &[ScriptEvent],
-) -> Result<(u16, Queue), AllocError>
+fn share(alloc: Global, device: &DeviceLine, dealt: &Dealt) -> Result<(u16, Queue), AllocError>
     requires { IsParams device.now.params }
-    ensures { IfOk result (λ share. share ≡ share_of events.now device.now) }
+    ensures { IfOk result (λ share. share ≡ share_from dealt.now device.now) }
 {
+    let Some(turns) = dealt.turns_of(device.number) else {
+        return Ok((device.number, Queue::new(alloc)));
+    };
     let mut world = first_world(alloc, device.params)?;
-    let queue = own_lines(alloc, device.number, &mut world, events);
+    let queue = own_lines(alloc, &mut world, dealt.publications(), turns.as_slice());
     drop(world);
     Ok((device.number, queue?))
 }
@@ -133,14 +141,14 @@ fn share(
 pub(crate) fn shares(
     alloc: Global,
     devices: &[DeviceLine],
-    events: &[ScriptEvent],
+    dealt: &Dealt,
 ) -> Result<Vec<(u16, Queue)>, AllocError>
     requires { HaveParams devices.now }
-    ensures { IfOk result (λ shares. shares.items ≡ map (share_of events.now) devices.now) }
+    ensures { IfOk result (λ shares. shares.items ≡ map (share_from dealt.now) devices.now) }
 {
     let mut shares = Vec::new(alloc);
     for device in devices {
-        shares.push(share(alloc, device, events)?)?;
+        shares.push(share(alloc, device, dealt)?)?;
     }
     Ok(shares)
 }
@@ -153,7 +161,8 @@ fn published_turn(
     queue: &mut Queue,
 ) -> Result<(), AllocError>
     ensures chain { OnOk result (world.new.chain ≡ chain_next world.old.chain event.now.event) }
-    ensures line { OnOk result (queue.new ≡ queue.old ++ published_part world.old.chain event.now.event) }
+    ensures line { OnOk result (
+        queue.new ≡ queue.old ++ published_part world.old.chain event.now.event) }
 {
     match &event.event {
         WorldEvent::Publish(_) => {

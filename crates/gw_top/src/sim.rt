@@ -1,17 +1,20 @@
-//! The run of a script, as it is printed.
+//! The run of a script, as it is printed, and its numbers.
 
 ghost use Rattle.std.specs.Prelude.{◌≡◌, [], IfOk, string_bytes};
 ghost use Rattle.std.specs.List.{AllByRecursion};
 ghost use Rattle.script_lang.specs.Ranges.{HaveParams, HandBytes, HaveOwnNumbers};
-ghost use Rattle.gw_top.specs.Run.{outcomes_after, run_of, lines_from, printed};
+ghost use Rattle.transcripts.specs.Lines.{IsSaid};
+ghost use Rattle.gw_top.specs.Run.{outcomes_after, run_of, lines_from, printed, IsSafeRun};
 ghost use Rattle.gw_top.specs.Words.{AreWorkers};
-ghost use Rattle.gw_top.specs.Shares.{IsSaid, AreLinesOf};
+ghost use Rattle.gw_top.specs.Shares.{AreLinesOf};
 ghost use Rattle.gw_top.specs.Merging.{IsOwned};
+ghost use Rattle.gw_top.specs.Output.{load_line};
 
 use crate::groups::shared;
 use crate::merging::{by_device, merged};
 use crate::shares::publications;
 use event_data::Line;
+use load_totals::{totals_of, totals_text};
 use rule_model::DeviceLine;
 use script_lang::{Script, ScriptEvent};
 use std::alloc::{AllocError, Global};
@@ -65,11 +68,29 @@ fn printed_lines(
     Ok(text)
 }
 
-/// What is printed for a script: a line for each event of its run, which so many workers make.
+/// The outcomes of a script's run, made by so many workers.
 ///
 /// # Errors
 /// Want of memory.
-#[tactic(auto, using(crate::proofs::RunLemmas::all_owned))]
+#[tactic(auto, using(crate::proofs::RunLemmas::all_owned, crate::proofs::RunLemmas::safe_run))]
+fn run_of<R: Threads + Sync>(
+    rt: &R,
+    alloc: Global,
+    workers: usize,
+    script: &Script,
+) -> Result<Vec<Line>, AllocError>
+    requires { AreWorkers workers }
+    ensures lines { IfOk result (λ lines. lines.items ≡ (run_of script.now).outcomes) }
+    ensures fit { IfOk result (λ lines. AreLinesOf script.now.events lines.items) }
+    ensures safe { IsSafeRun script.now }
+{
+    outcomes(rt, alloc, workers, script.devices(), script.events())
+}
+
+/// What is printed for a script: a line for each event of its run, made by so many workers.
+///
+/// # Errors
+/// Want of memory.
 pub(crate) fn simulate<R: Threads + Sync>(
     rt: &R,
     alloc: Global,
@@ -78,9 +99,34 @@ pub(crate) fn simulate<R: Threads + Sync>(
 ) -> Result<Vec<u8>, AllocError>
     requires { AreWorkers workers }
     ensures printed { IfOk result (λ text. text.items ≡ printed script.now (run_of script.now)) }
-    ensures in_range { HaveParams script.now.devices }
+    ensures safe { IsSafeRun script.now }
 {
-    let lines = outcomes(rt, alloc, workers, script.devices(), script.events())?;
+    let lines = run_of(rt, alloc, workers, script)?;
     let text = printed_lines(alloc, script.events(), lines.as_slice())?;
+    Ok(text.into_bytes())
+}
+
+/// The numbers of a script's run as a line, made by so many workers.
+///
+/// # Errors
+/// Want of memory.
+pub(crate) fn load_line<R: Threads + Sync>(
+    rt: &R,
+    alloc: Global,
+    workers: usize,
+    script: &Script,
+) -> Result<Vec<u8>, AllocError>
+    requires { AreWorkers workers }
+    ensures line { IfOk result (λ text. text.items ≡ load_line script.now) }
+    ensures safe { IsSafeRun script.now }
+{
+    let lines = run_of(rt, alloc, workers, script)?;
+    let totals = totals_of(rt, lines.as_slice());
+    let text = totals_text(
+        alloc,
+        script.devices().len(),
+        script.events().len(),
+        &totals,
+    )?;
     Ok(text.into_bytes())
 }

@@ -9,16 +9,25 @@ ghost use Rattle.gw_top.specs.Words.{
   AreWorkers,
   IsInLimits,
   count_of,
+  reads_input,
+  load_starts,
   with_workers,
   ended,
   workers_at,
   option_at,
+  start_at,
+  load_at,
   command_after,
   command_of,
 };
 
+use schc_ids::limits::MAX_DEVICES;
+
 /// The most workers among which devices are shared out.
 const MAX_WORKERS: u64 = 8;
+
+/// How many starts a load can have: one for each state of its generator.
+const LOAD_STARTS: u64 = 1 << 31;
 
 /// What the program can be asked to do.
 #[derive(Clone, Copy, Debug, PartialEq, Eq)]
@@ -31,6 +40,21 @@ pub(crate) enum Command {
     Unpack,
     /// Run a script, with so many workers.
     Sim(usize),
+    /// Run the load of so many devices whose generator starts there, with so many workers.
+    Load {
+        devices: u16,
+        start: u32,
+        workers: usize,
+    },
+}
+
+impl Command {
+    /// Whether the command reads its input: all but a load do.
+    pub(crate) fn reads_input(&self) -> bool
+        ensures { result ≡ reads_input self.now }
+    {
+        !matches!(self, Command::Load { .. })
+    }
 }
 
 fn is_numeral(word: &[u8]) -> bool
@@ -93,6 +117,11 @@ fn with_workers(command: Command, workers: usize) -> Command
         Command::Pack => Command::Pack,
         Command::Unpack => Command::Unpack,
         Command::Sim(_) => Command::Sim(workers),
+        Command::Load { devices, start, .. } => Command::Load {
+            devices,
+            start,
+            workers,
+        },
     }
 }
 
@@ -150,6 +179,52 @@ fn option_at(place: u32, command: Command, words: &[String]) -> Result<Command, 
     }
 }
 
+/// The load of so many devices with the start that stands at the third place, and an option after
+/// it.
+///
+/// # Errors
+/// The place of the first word that is outside the grammar, or one past the last where one lacks.
+#[tactic(auto, unfolding(crate::specs::Words::start_read))]
+fn start_at(devices: u16, words: &[String]) -> Result<Command, u32>
+    requires least { 1 ≤ devices }
+    requires most { devices ≤ 1024 }
+    ensures command { result ≡ start_at devices (map string_bytes words.now) }
+    ensures limits { IfOk result IsInLimits }
+{
+    match words {
+        [] => Err(3),
+        [word, rest @ ..] => match number(LOAD_STARTS, word.as_str()) {
+            Some(start) => {
+                let load = Command::Load {
+                    devices,
+                    start: start as u32,
+                    workers: 1,
+                };
+                option_at(4, load, rest)
+            }
+            None => Err(3),
+        },
+    }
+}
+
+/// The load whose number of devices stands at the second place.
+///
+/// # Errors
+/// The place of the first word that is outside the grammar, or one past the last where one lacks.
+#[tactic(auto, unfolding(crate::specs::Words::devices_read))]
+fn load_at(words: &[String]) -> Result<Command, u32>
+    ensures command { result ≡ load_at (map string_bytes words.now) }
+    ensures limits { IfOk result IsInLimits }
+{
+    match words {
+        [] => Err(2),
+        [word, rest @ ..] => match count(MAX_DEVICES as u64, word.as_str()) {
+            Some(devices) => start_at(devices as u16, rest),
+            None => Err(2),
+        },
+    }
+}
+
 /// The command of these words, the first of which names it.
 ///
 /// # Errors
@@ -164,6 +239,7 @@ fn command_after(word: &str, words: &[String]) -> Result<Command, u32>
         "pack" => ended(2, Command::Pack, words),
         "unpack" => ended(2, Command::Unpack, words),
         "sim" => option_at(2, Command::Sim(1), words),
+        "load" => load_at(words),
         _ => Err(1),
     }
 }

@@ -9,12 +9,16 @@ use std::process::ExitCode;
 
 const HELP: &str = "schc_gw: a gateway and a device end for SCHC (RFC 8724)
 
-  schc_gw check              reads a context, prints for each of its editions of rules whether it can be published
+  schc_gw check              reads a context, prints whether each of its editions can be published
   schc_gw pack               reads a work file, prints each of its packets as an SCHC packet
-  schc_gw unpack             reads a work file, prints the packet that each of its SCHC packets is read as
-  schc_gw sim [--workers W]  reads a script, prints a line for each of its events; W threads, 1 to 8, run its devices
+  schc_gw unpack             reads a work file, prints what each of its SCHC packets is read as
+  schc_gw sim [--workers W]  reads a script, prints a line for each of its events
+  schc_gw load N START [--workers W]
+                             makes a script of N devices, prints the numbers of its run
   schc_gw --help             prints this text
   schc_gw --version          prints the program's name and version
+
+W threads, 1 to 8, run the devices: 1, if not given. N is 1 to 1024, and START 0 to 2147483647.
 ";
 
 const VERSION: &str = "schc_gw 0.1.0\n";

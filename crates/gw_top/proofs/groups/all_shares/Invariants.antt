@@ -5,4 +5,7 @@ use Rattle.gw_top.proofs.groups.all_shares.Given as goal
 
 -- the shares so far, and those of the groups that are left
 abbrev pub invariant-loop-group : goal.invariant-loop-group
-invariant-loop-group l = option_map (λ others. l.all.items ++ others) (shares_in (into_iter_items l.group-iterator)) ≡ shares_in (into_iter_items l.initial.group-iterator)
+invariant-loop-group l =
+    option_map (λ others. l.all.items ++ others)
+    (shares_in (into_iter_items l.group-iterator)) ≡ shares_in
+    (into_iter_items l.initial.group-iterator)

@@ -19,8 +19,11 @@ loop-place-preserved c =
     let pushed = c.in_ok-push.ensures.len in
     let most = c.group_size.ensures.most in
     let least = c.group_size.ensures.least in (
-      joined_step at.groups.items c.push.new.self.items c.split_at.result.0 at.left.now c.split_at.result.1.now c.args.devices.now c.group_size.result items c.split_at.ensures.front c.split_at.ensures.back at.invariant.0,
+      joined_step at.groups.items c.push.new.self.items c.split_at.result.0 at.left.now
+          c.split_at.result.1.now c.args.devices.now c.group_size.result items
+          c.split_at.ensures.front c.split_at.ensures.back at.invariant.0,
       omega arith,
-      even_step size at.groups.items c.push.new.self.items c.split_at.result.0 items at.invariant.2 (omega arith, omega arith),
+      even_step size at.groups.items c.push.new.self.items c.split_at.result.0 items at.invariant.2
+          (omega arith, omega arith),
       omega arith,
     )

@@ -2,7 +2,7 @@ use Rattle.std.proofs.Common.{◌≡◌, ◌++◌, List, [], drop, nat_eq}
 use Rattle.std.specs.List.{AllByRecursion}
 use Rattle.indexmap.specs.IndexMap.{get}
 use Rattle.script_lang.specs.ScriptData.{ScriptEventData}
-use Rattle.gw_top.specs.Shares.{IsSaid}
+use Rattle.transcripts.specs.Lines.{IsSaid}
 use Rattle.gw_top.proofs.MergeLemmas.{IsMergedTo}
 use Rattle.gw_top.proofs.merging.merged.Given as goal
 
@@ -10,4 +10,5 @@ use Rattle.gw_top.proofs.merging.merged.Given as goal
 abbrev pub invariant-loop-event : goal.invariant-loop-event
 invariant-loop-event l =
     AllByRecursion IsSaid l.lines.items
-    × IsMergedTo l.declared l.events (drop l.event-index l.events) l.lines.items l.published (get nat_eq l.devices)
+    × IsMergedTo l.declared l.events (drop l.event-index l.events) l.lines.items l.published
+    (get nat_eq l.devices)

@@ -7,5 +7,6 @@ use Rattle.gw_top.proofs.words.parsed.Goals as goal
 pub returns : goal.returns
 returns c =
     let same : c.as_bytes.result.now ≡ c.args.word.now = search rules in
-    let numeral : is_numeral c.args.word.now ≡ true = subst (λ (w : List ℕ). is_numeral w ≡ true) same (sym c.if-not-is_numeral.ensures) in
+    let numeral : is_numeral c.args.word.now ≡ true =
+    subst (λ (w : List ℕ). is_numeral w ≡ true) same (sym c.if-not-is_numeral.ensures) in
     c.ok.ensures.value ∙ parse-number_of c.args.word.now _ numeral c.parse.ensures.value.0
