@@ -127,6 +127,7 @@ alike-all1 w rcs part (Gathering bits count answer) =
 alike-all1 w rcs part (Finished last answer) =
     alike-apart (finished_step w last answer) (finished-apart w last answer)
 
+-- a preview gives bits exactly where taking the message joins the packet
 pub preview_joins : PreviewJoins
 unfolding previewed taken
 preview_joins (form.Regular w fcn from) part receiver =
@@ -155,6 +156,7 @@ unfolding passed
 passed-is rcs None bits e = absurd (none-some bits e)
 passed-is rcs (Some all) bits e = passed-if all bits rcs (rcs_of all == rcs) refl e
 
+-- the bits of a preview are those over which the check is made, and have the RCS of the All-1
 pub preview_passes : PreviewPasses
 unfolding previewed checked
 preview_passes (form.Regular w fcn from) part bits receiver e = absurd (none-some bits e)
@@ -194,6 +196,7 @@ check-fits w part all (Gathering bits count answer) found =
     window-fits bits part all (w == open_window count) found
 check-fits w part all (Finished last answer) found = absurd (none-some all found)
 
+-- there is room for the bits of a preview
 pub preview_fits : PreviewFits
 unfolding previewed
 preview_fits (form.Regular w fcn from) part bits receiver e = absurd (none-some bits e)

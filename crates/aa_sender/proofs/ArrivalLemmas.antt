@@ -42,6 +42,7 @@ abbrev pub Fits : AaSenderData → Message × List Bool → Type 0
 Fits sender due = CanSpell sender.params side.Fragments due.0 due.1
     × (length (bytes_due sender.params due) ≤ sender.mtu)
 
+-- the fragment of a tile, an All-1 for the last one alone, can be written, and fits in a frame
 pub fragment-fits : (sender : AaSenderData) (i : ℕ) (is_last : Bool)
     → i == last_index sender ≡ is_last → IsAaSender sender → i ≤ last_index sender
     → Fits sender (fragment_of sender i is_last)
@@ -78,10 +79,12 @@ due_in-fits sender Closing is h =
     (can_abort sender.params is.row, room_abort sender.params sender.mtu is.row is.in_range)
 due_in-fits sender Quiet is h = tt
 
+-- what is due of a sender can be written, and has no more bytes than its frames may have
 pub due_fits : DueFits
 unfolding due_message
 due_fits sender is = due_in-fits sender sender.state is is.stands
 
+-- of the Regular of a tile that isn't the last, what is read as its payload is that tile
 pub tile_arrives : TileArrives
 unfolding fragment_of
 tile_arrives sender i is h =
@@ -128,6 +131,7 @@ behind-front front tile e =
     ∙ drop_at front (tile ++ replicate ((8 - length (front ++ tile) % 8) % 8) false) 34 e
     ∙ ap (λ (n : ℕ). tile ++ replicate ((8 - n % 8) % 8) false) size
 
+-- the tiles but the last, and then what is read as the payload of the All-1, are the padded packet
 pub last_arrives : LastArrives
 unfolding fragment_of last_index padded_packet
 last_arrives sender is =

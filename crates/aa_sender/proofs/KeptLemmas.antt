@@ -17,6 +17,7 @@ use Rattle.aa_sender.specs.declared.states.AaSenderState.TheVariants.{Sending, W
 use Rattle.aa_sender.specs.declared.states.AaSenderState.TheVariants.{Quiet}
 use Rattle.aa_sender.proofs.SenderLemmas.{stands_there}
 
+-- a session that begins with ACK-Always parameters, and an MTU and bits in range, has a sender
 pub begins_one : BeginsOne
 begins_one params mtu last bits row range least most =
     record {
@@ -116,6 +117,7 @@ aborted-stands last (Waiting i attempts) = tt
 aborted-stands last Closing = tt
 aborted-stands last Quiet = tt
 
+-- a sender is still one after it sent, heard a message, had its timer due, or was told to abort
 pub stays_one : StaysOne
 unfolding sent heard retried aborted
 stays_one sender is =

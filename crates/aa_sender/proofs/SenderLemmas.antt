@@ -26,11 +26,13 @@ use Rattle.aa_sender.specs.Steps.{window_of}
 use Rattle.tiles_bitmap.proofs.PieceLemmas.{is-piece, length-tiles, length-tile_ends, some-tile}
 use Rattle.aa_sender.proofs.TileLemmas.{FillsFrame, regular-fits, last-fits}
 
+-- the window in the number of a tile is this one, where the parameters are those of ACK-Always
 pub window_of_is : (params : FragParams) (i : ℕ) → params ≡ params_of mode.AckAlways
     → (tile_number params.mode i).w ≡ window_of i
 unfolding window_of
 window_of_is params i row = ap (λ (p : FragParams). (tile_number p.mode i).w) row
 
+-- the number of a window is 0 or 1, so it has room in the one bit of W
 pub window_of_below : (i : ℕ) → window_of i ≤ 1
 unfolding window_of tile_number
 window_of_below i = omega arith
@@ -40,6 +42,7 @@ pub record HasTiles (sender : AaSenderData) (ends : List ℕ) : Type 0 where
   pub some : 1 ≤ length ends
   pub last : length ends - 1 ≡ last_index sender
 
+-- a packet has at least one tile, and one end for each, so the last end is that of the last tile
 pub has_tiles : (sender : AaSenderData) (ends : List ℕ) → IsAaSender sender
     → ends ≡ tile_ends sender.params sender.mtu (length sender.bits) → HasTiles sender ends
 unfolding last_index
@@ -62,6 +65,7 @@ pub record IsTileOf (sender : AaSenderData) (ends : List ℕ) (i : ℕ) : Type 0
   pub piece : take (get_or ends i 0 - get_or (0 ∷ ends) i 0)
       (drop (get_or (0 ∷ ends) i 0) sender.bits) ≡ tile_at sender i
 
+-- each tile up to the last is the part of the packet from the end of the one before to its own end
 pub is_tile : (sender : AaSenderData) (ends : List ℕ) (i : ℕ) → IsAaSender sender
     → ends ≡ tile_ends sender.params sender.mtu (length sender.bits) → i ≤ last_index sender
     → IsTileOf sender ends i
@@ -103,6 +107,7 @@ regular_is sender i is h =
     (subst (λ (p : FragParams). suc i < length (tile_sizes p sender.mtu (length sender.bits)))
     is.row inside))
 
+-- the last tile fits in a frame behind two bits of header and the 32 bits of the RCS
 pub last_is : (sender : AaSenderData) → IsAaSender sender
     → 34 + length (tile_at sender (last_index sender)) ≤ 8 * sender.mtu
 unfolding last_index
@@ -126,6 +131,7 @@ last_is sender is =
 pub length-written : (bits : List Bool) → length (bytes_of (padded bits)) ≡ (length bits + 7) / 8
 length-written bits = length-bytes_of (padded bits) ∙ omega (arith, length-padded bits)
 
+-- in ACK-Always W has one bit, and so has the FCN
 pub row-bits : (params : FragParams) → params ≡ params_of mode.AckAlways → (params.w_bits ≡ 1)
     × (params.fcn_bits ≡ 1)
 row-bits params row =
@@ -148,6 +154,7 @@ head-room params w fcn mtu rest row h =
       h,
     )
 
+-- a Regular with a W of 0 or 1, an FCN of 0 and eight bits of payload or more can be written
 pub can_regular : (params : FragParams) (w from : ℕ) (payload : List Bool)
     → params ≡ params_of mode.AckAlways → w ≤ 1 → 8 ≤ length payload
     → CanSpell params side.Fragments (form.Regular w 0 from) payload
@@ -155,6 +162,7 @@ can_regular params w from payload row h k =
     subst (λ (p : FragParams). CanSpell p side.Fragments (form.Regular w 0 from) payload) (sym row)
     (omega (arith, h), refl, omega (arith, k))
 
+-- an All-1 with a W of 0 or 1 and an RCS of 32 bits can be written, whatever its payload
 pub can_all1 : (params : FragParams) (w rcs from : ℕ) (payload : List Bool)
     → params ≡ params_of mode.AckAlways → w ≤ 1 → rcs < 2 ^ 32
     → CanSpell params side.Fragments (form.All1 w rcs from) payload
@@ -162,23 +170,27 @@ can_all1 params w rcs from payload row h k =
     subst (λ (p : FragParams). CanSpell p side.Fragments (form.All1 w rcs from) payload) (sym row)
     (omega (arith, h), k)
 
+-- an ACK REQ with a W of 0 or 1 can be written
 pub can_request : (params : FragParams) (w : ℕ) → params ≡ params_of mode.AckAlways → w ≤ 1
     → CanSpell params side.Fragments (form.AckReq w) []
 can_request params w row h =
     subst (λ (p : FragParams). CanSpell p side.Fragments (form.AckReq w) []) (sym row)
     (omega (arith, h), refl)
 
+-- in ACK-Always a Sender-Abort can be written
 pub can_abort : (params : FragParams) → params ≡ params_of mode.AckAlways
     → CanSpell params side.Fragments form.SenderAbort []
 can_abort params row =
     subst (λ (p : FragParams). CanSpell p side.Fragments form.SenderAbort []) (sym row) refl
 
+-- a Regular fits in a frame that has room for its payload and two bits of header
 pub room_regular : (params : FragParams) (w from mtu : ℕ) (payload : List Bool)
     → params ≡ params_of mode.AckAlways → length payload + 2 ≤ 8 * mtu
     → length (written params (form.Regular w 0 from) payload) ≤ mtu
 room_regular params w from mtu payload row h =
     head-room params w 0 mtu payload row (omega (arith, h))
 
+-- an All-1 fits in a frame that has room for its payload, two bits of header and the RCS
 pub room_all1 : (params : FragParams) (w rcs from mtu : ℕ) (payload : List Bool)
     → params ≡ params_of mode.AckAlways → 34 + length payload ≤ 8 * mtu
     → length (written params (form.All1 w rcs from) payload) ≤ mtu
@@ -208,10 +220,12 @@ room_all1 params w rcs from mtu payload row h =
       h,
     )
 
+-- an ACK REQ fits in a frame, whatever MTU in range the end has
 pub room_request : (params : FragParams) (w mtu : ℕ) → params ≡ params_of mode.AckAlways → IsMtu mtu
     → length (written params (form.AckReq w) []) ≤ mtu
 room_request params w mtu row h = head-room params w 0 mtu [] row (omega (arith, h.0))
 
+-- a Sender-Abort fits in a frame, whatever MTU in range the end has
 pub room_abort : (params : FragParams) (mtu : ℕ) → params ≡ params_of mode.AckAlways → IsMtu mtu
     → length (written params form.SenderAbort []) ≤ mtu
 room_abort params mtu row h =

@@ -25,6 +25,7 @@ use Rattle.aa_sender.specs.declared.states.AaSenderState.TheVariants.{Quiet}
 use Rattle.aa_sender.proofs.SenderLemmas.{window_of_below, can_request, can_abort}
 use Rattle.aa_sender.proofs.ArrivalLemmas.{Fits, fragment-fits}
 
+-- no step of a sender changes its parameters, its MTU or the bits of its SCHC packet
 pub keeps_session : KeepsSession
 unfolding sent heard retried aborted
 keeps_session sender =
@@ -54,6 +55,7 @@ none-in sender (Waiting i attempts) = (λ h. inl refl, λ h. refl)
 none-in sender Closing = (λ h. absurd (cc h), λ h. absurd (closing-moves h))
 none-in sender Quiet = (λ h. inr refl, λ h. refl)
 
+-- nothing is due exactly where the sender waits for an answer or is quiet
 pub none_due : NoneDue
 unfolding due_message
 none_due sender = none-in sender sender.state
@@ -129,6 +131,7 @@ due_in-checks sender Closing bytes w rcs from payload is h e spells =
     (can_abort sender.params is.row) (some-bytes _ bytes e) spells))
 due_in-checks sender Quiet bytes w rcs from payload is h e spells = absurd (cc e)
 
+-- where the bytes that are due are read as an All-1, its RCS is that of the padded packet
 pub all1_checks : All1Checks
 unfolding due_message
 all1_checks sender bytes w rcs from payload is e spells =

@@ -16,6 +16,8 @@ pub record FillsFrame (mtu : ℕ) (tile : List Bool) : Type 0 where
   pub fits : length tile + 2 ≤ 8 * mtu
   pub whole : (length tile + 2) % 8 ≡ 0
 
+-- of a packet of eight bits or more, each tile but the last has eight bits or more, and makes whole
+-- bytes with the two bits of its header, no more than a frame has
 pub regular-fits : (mtu : ℕ) (bits : List Bool) (i : ℕ) → IsMtu mtu → 8 ≤ length bits
     → suc i < length (tile_sizes (params_of mode.AckAlways) mtu (length bits)) →
     FillsFrame mtu (get_or (tiles (params_of mode.AckAlways) mtu bits) i [])

@@ -43,6 +43,7 @@ store-none buffer sizes marks all free clear =
       marked = λ w h. rw (sized-none 252) (marks-none w h);
     }
 
+-- where all sizes are 0 and the All-1's tile has no bytes, the store stands for no tile
 pub view-none : (buffer sizes : List ℕ) → sizes ≡ replicate 252 0
     → record {
       tiles = places sizes buffer;
@@ -58,11 +59,13 @@ unfolding is_sized
 sized-test zero = refl
 sized-test (suc n) = ap not (ne_eqb (suc n) 0 (λ e. omega arith))
 
+-- a place that is found to hold a tile has a size that isn't 0
 pub sized-true : (n : ℕ) (b : Bool) → b ≡ is_sized n → b ≡ true → n ≡ 0 → ⊥
 unfolding is_sized
 sized-true zero b e t none = let f : b ≡ false = e in absurd cc
 sized-true (suc n) b e t none = omega arith
 
+-- a place that is found to hold no tile has a size of 0
 pub sized-false : (n : ℕ) (b : Bool) → b ≡ is_sized n → b ≡ false → n ≡ 0
 unfolding is_sized
 sized-false zero b e f = refl
@@ -87,6 +90,7 @@ unfolding is_sized
 free-place sizes place n h e none =
     rw (sized-at sizes place, sym (get_or_read sizes place n h e 0), none) refl
 
+-- a place with a size of 0 isn't one of those that hold a tile
 pub open-place : (sizes buffer : List ℕ) (place n : ℕ) → place < length sizes
     → n ≡ get_or sizes place n → n ≡ 0
     → get_or (held_bits (places sizes buffer)) place false ≡ false
@@ -101,6 +105,7 @@ pub record Puts (sizes buffer tile : List ℕ) (place : ℕ) (size : ℕ) : Type
   pub some : 1 ≤ length tile
   pub most : length tile ≤ 10
 
+-- a window's number stays below 2^63 where the bit of a tile at a free place is added
 pub room-put : (buffer sizes marks tile : List ℕ) (last place size : ℕ)
     → IsStore buffer sizes marks last → Puts sizes buffer tile place size →
     get_or marks (place / 63) 0 + 1 * 2 ^ (62 - place % 63) % 2 ^ 64 < 2 ^ 63
@@ -118,6 +123,8 @@ room-put buffer sizes marks tile last place size s p =
     (mark-room (get_or marks (place / 63) 0) (bitmap 63 (place / 63) (sized sizes)) (place % 63)
     (s.marked (place / 63) (omega arith)) count (omega arith) bit)
 
+-- after a tile is written at a free place, with its size and its bit in its window's number, the
+-- buffer still stands for places
 pub store-put : (buffer sizes marks tile after : List ℕ) (last place size : ℕ)
     → IsStore buffer sizes marks last → Puts sizes buffer tile place size
     → after ≡ overwritten (10 * place) tile buffer →
@@ -149,6 +156,7 @@ store-put buffer sizes marks tile after last place size s p e =
     sized-put sizes place zero some = absurd (omega arith)
     sized-put sizes place (suc more) some = sized-set sizes place more
 
+-- with bytes and size of a tile written at a free place, the places are as before with it kept
 pub tiles-put : (buffer sizes marks tile after : List ℕ) (last place size : ℕ)
     → IsStore buffer sizes marks last → Puts sizes buffer tile place size
     → after ≡ overwritten (10 * place) tile buffer →
@@ -162,6 +170,7 @@ tiles-put buffer sizes marks tile after last place size s p e =
     (places-put place (10 * place) sizes buffer tile refl (omega arith) (omega arith) s.small
     (sym (get_or_read sizes place size (omega arith) p.read 0) ∙ p.free) p.some p.most)
 
+-- a tile that is written at its place leaves the All-1's tile as it was
 pub last-put : (buffer sizes marks tile after : List ℕ) (last place size : ℕ)
     → IsStore buffer sizes marks last → Puts sizes buffer tile place size
     → after ≡ overwritten (10 * place) tile buffer →
@@ -188,6 +197,7 @@ store-last buffer sizes marks tile after last s most e =
       marked = s.marked;
     }
 
+-- the All-1's tile, written behind the places, changes none of their tiles
 pub tiles-last : (buffer sizes marks tile after : List ℕ) (last : ℕ)
     → IsStore buffer sizes marks last → after ≡ overwritten 2520 tile buffer
     → places sizes after ≡ places sizes buffer
@@ -196,6 +206,7 @@ tiles-last buffer sizes marks tile after last s e =
     let all = s.all_places in
     rw e (places-behind 2520 sizes buffer tile (omega arith) (omega arith) s.small)
 
+-- the bytes that are written behind the places are read there as the All-1's tile
 pub last-last : (buffer sizes marks tile after : List ℕ) (last : ℕ)
     → IsStore buffer sizes marks last → after ≡ overwritten 2520 tile buffer
     → octets (take (length tile) (drop 2520 after)) ≡ octets tile

@@ -26,6 +26,7 @@ use Rattle.aoe_receiver.specs.Steps.{with_tile}
 pub none-left : (n : ℕ) (b : Bool) → b ≡ (n == 0) → b ≡ true → n ≡ 0
 none-left n b e t = eqb-true n 0 (sym e ∙ t)
 
+-- where the test whether nothing is left fails, at least one is left
 pub some-left : (n : ℕ) (b : Bool) → b ≡ (n == 0) → b ≡ false → 1 ≤ n
 some-left zero b e f = let t : b ≡ true = e in absurd cc
 some-left (suc n) b e f = omega arith
@@ -38,12 +39,14 @@ pub passes-then : (tiles : List (Option (List Bool))) (w rcs found : ℕ) (tile 
 unfolding passes assembly
 passes-then tiles w rcs found tile whole e t f = rw (sym e, t, f) refl
 
+-- where a window below the All-1's isn't full or its own has a gap, the check doesn't pass
 pub passes-else : (tiles : List (Option (List Bool))) (w rcs : ℕ) (tile : List Bool) (whole : Bool)
     → whole ≡ is_whole w (held_bits tiles) → whole ≡ false
     → whole ≡ passes tiles (last_of w rcs tile)
 unfolding passes
 passes-else tiles w rcs tile whole e f = rw (sym e, f) refl
 
+-- where the check passes, the preview is the tiles up to the All-1's window and then its tile
 pub preview-then : (tiles : List (Option (List Bool))) (w rcs : ℕ) (tile joined : List Bool)
     (b : Bool) → b ≡ passes tiles (last_of w rcs tile) → b ≡ true
     → joined ≡ joined_tiles (take (63 * (w + 1)) tiles) ++ tile →
@@ -55,12 +58,14 @@ on-err : {X Y P : Type 0} (r : Result X Y) → P → OnErr r P
 on-err (Ok x) p = tt
 on-err (Err y) p = p
 
+-- where the check passes there is an assembly to give, also when memory for it is wanting
 pub preview-full : {X Y : Type 0} (r : Result X Y) (tiles : List (Option (List Bool))) (w rcs : ℕ)
     (tile : List Bool) (b : Bool) → b ≡ passes tiles (last_of w rcs tile) → b ≡ true →
     OnErr r (IsSome (if_passed (Some (record { tiles = tiles; last = last_of w rcs tile }))))
 unfolding if_passed
 preview-full r tiles w rcs tile b e t = on-err r (rw (sym e, t) refl)
 
+-- where the check doesn't pass, there is no preview
 pub preview-else : (tiles : List (Option (List Bool))) (w rcs : ℕ) (tile : List Bool) (b : Bool)
     → b ≡ passes tiles (last_of w rcs tile) → b ≡ false →
     None ≡ if_passed (Some (record { tiles = tiles; last = last_of w rcs tile }))
@@ -74,6 +79,7 @@ unfolding with_tile
 with-none [] tile bits e n = rw (← e) refl
 with-none (byte ∷ bytes) tile bits e n = absurd (omega arith)
 
+-- an All-1's tile of at least one byte is shown by the rightmost bit of the bitmap
 pub with-some : (bytes : List ℕ) (tile bits : List Bool) → octets bytes ≡ tile → 1 ≤ length bytes
     → with_tile tile bits ≡ with_last bits
 unfolding with_tile number_bits
@@ -91,6 +97,7 @@ IsSpelt : Message → List ℕ → Type 0
 IsSpelt message bytes =
     Spells (params_of AckOnError) Fragments message (payload_in message (octets bytes)) bytes
 
+-- a Regular does its step with the tiles in its bytes behind the header, at the place of W and FCN
 pub take-regular : (message : Message) (bytes : List ℕ) (receiver : AoeReceiverData)
     (w fcn from place : ℕ) → message ≡ form.Regular w fcn from →
     Spells (params_of AckOnError) Fragments message (payload_in message (octets bytes)) bytes
@@ -108,6 +115,7 @@ take-regular message bytes receiver w fcn from place is spelt at =
     (ap (λ payload. regular_step (63 * w + (62 - fcn)) (payload_tiles payload) (begun receiver))
     (payload-octets from 1 bytes (s.0.place)))) spelt
 
+-- an All-1 does its step with the bytes behind its RCS as its tile
 pub take-last : (message : Message) (bytes : List ℕ) (receiver : AoeReceiverData) (w rcs from : ℕ)
     → message ≡ form.All1 w rcs from →
     Spells (params_of AckOnError) Fragments message (payload_in message (octets bytes)) bytes →
@@ -123,6 +131,7 @@ take-last message bytes receiver w rcs from is spelt =
     (λ s. ap (λ payload. all1_step (last_of w rcs payload) (begun receiver))
     (payload-octets from 5 bytes (s.0.place))) spelt
 
+-- an All-1's preview is that of the check made with the bytes behind its RCS as its tile
 pub preview-last : (message : Message) (bytes : List ℕ) (receiver : AoeReceiverData)
     (w rcs from : ℕ) → message ≡ form.All1 w rcs from →
     Spells (params_of AckOnError) Fragments message (payload_in message (octets bytes)) bytes →
@@ -153,6 +162,7 @@ answer-room form.ReceiverAbort bytes w' =
     let two : length (octets bytes) ≡ 16 = ap length w'.spells.bits ∙ length-number_bits 16 65535 in
     omega (arith, two, length-octets bytes)
 
+-- an answer that is written with the parameters of ACK-on-Error has at most nine bytes
 pub written-room : (params : FragParams) (message : Message) (payload : List Bool) (bytes : List ℕ)
     → params ≡ params_of AckOnError → payload ≡ [] → IsWritten params Answers message payload bytes
     → length bytes ≤ 9

@@ -40,6 +40,7 @@ open-is [] e = absurd cc
 open-is (true ∷ bits) e = rw pow-suc (omega (arith, open-is bits e))
 open-is (false ∷ bits) e = rw pow-suc (omega (arith, bits_value-below bits, pow_pos (length bits)))
 
+-- a bitmap's number is the greatest of so many bits exactly where each bit is 1
 pub full-test : (bits : List Bool) → (bits_value bits == 2 ^ length bits - 1) ≡ all_true bits
 full-test bits = full-case (cases_Bool (all_true bits))
   where
@@ -81,6 +82,8 @@ lack-some n m h =
     ∙ ap (λ x. bit_and x (1 * 2 ^ n + (m + 1))) (sym a)
     ∙ ap (λ x. bit_and (2 ^ n + m) x) (sym b) ∙ e in omega (arith, pow_pos n))
 
+-- no 1 stands behind a 0 exactly where what the number lacks to the greatest has no bit in common
+-- with one more than it
 pub gap-test : (bits : List Bool)
     → (bit_and (2 ^ length bits - 1 - bits_value bits)
     (2 ^ length bits - 1 - bits_value bits + 1) == 0) ≡ no_gap bits
@@ -134,12 +137,14 @@ pub bitmap-set_below : (w place : ℕ) (bits : List Bool) → place < w * 63
 unfolding bitmap
 bitmap-set_below w place bits h = ap (λ bs. take 63 bs) (drop-set-lt (w * 63) bits place true h)
 
+-- a window that lies within the bits has a bitmap of 63
 pub length-bitmap : (w : ℕ) (bits : List Bool) → w * 63 + 63 ≤ length bits
     → length (bitmap 63 w bits) ≡ 63
 unfolding bitmap
 length-bitmap w bits h =
     omega (arith, length-take 63 (drop (w * 63) bits), length-drop (w * 63) bits)
 
+-- a bit of a window's bitmap is the bit of the same tile among those of all windows
 pub bitmap-at : (w j : ℕ) (bits : List Bool) → j < 63
     → get_or (bitmap 63 w bits) j false ≡ get_or bits (w * 63 + j) false
 unfolding bitmap
@@ -202,6 +207,7 @@ zeros-at zero w = refl
 zeros-at (suc n) zero = refl
 zeros-at (suc n) (suc w) = zeros-at n w
 
+-- numbers that are all 0 stand for four windows of which no tile is held
 pub marks-none : (w : ℕ) → w < 4 → let zeros : List ℕ = replicate 4 0 in
     get_or zeros w 0 ≡ bits_value (bitmap 63 w (replicate 252 false))
 unfolding bitmap
@@ -265,6 +271,7 @@ open-next w last bits h full =
     drop-drop 63 (w * 63) bits ∙ ap (λ n. drop n bits) at in
     rw (more, full, behind) (omega arith)
 
+-- a search for the lowest open window ends at one below the last that isn't full
 pub open-here : (w last : ℕ) (bits : List Bool) → w < last → all_true (bitmap 63 w bits) ≡ false →
     w + open_window 63 (last - w) (drop (w * 63) bits) ≡ w
 unfolding bitmap open_window
@@ -272,6 +279,7 @@ open-here w last bits h free =
     let more : last - w ≡ suc (last - (w + 1)) = omega arith in
     rw (more, free) (omega arith)
 
+-- a search that has come to the last window finds that one
 pub open-end : (w last : ℕ) (bits : List Bool) (found : ℕ) → last ≤ w → w ≤ last
     → w + open_window 63 (last - w) bits ≡ found → last ≡ found
 unfolding open_window
@@ -291,6 +299,7 @@ whole-then w bits found gapless e same gap =
     ∙ eq-eqb _ _ (sym e ∙ same) in
     rw full gap
 
+-- where the lowest window that isn't full is below w, the windows up to w aren't whole
 pub whole-else : (w : ℕ) (bits : List Bool) (found : ℕ) → found ≡ open_window 63 w bits
     → (found ≡ w → ⊥) → (found == w) ≡ is_whole w bits
 unfolding is_whole
@@ -324,6 +333,7 @@ or-one n =
     or-parts a (suc zero) h = rw (or_zero_r a) (omega arith)
     or-parts a (suc (suc r)) h = absurd (omega arith)
 
+-- a window's number with the lowest bit set is that of its bitmap with the rightmost bit set
 pub with_last-or : (bits : List Bool) (mark : ℕ) → mark ≡ bits_value bits → length bits ≡ 63
     → bit_or mark 1 ≡ bits_value (with_last bits)
 with_last-or [] mark e count = absurd (omega arith)

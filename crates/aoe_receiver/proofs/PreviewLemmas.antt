@@ -36,6 +36,7 @@ tiles-room n tiles last (count, all) few =
     let room = places-room n tiles all in
     omega (arith, length-append (joined_tiles (take n tiles)) last, room, count, few)
 
+-- the tiles up to a window, and one of at most ten bytes, fit in what an end keeps of a packet
 pub joined-room : (tiles : List (Option (List Bool))) (w : ℕ) (tile : List ℕ) (bits : List Bool)
     → ArePlaces tiles → length tile ≤ 10
     → bits ≡ joined_tiles (take (63 * (w + 1)) tiles) ++ octets tile
@@ -92,6 +93,7 @@ unfolding if_passed
 passed-is None bits e = absurd (none-bits bits e)
 passed-is (Some check) bits e = if-passes check bits (passes check.tiles check.last) refl e
 
+-- a preview is the assembly of the check that the message makes, and has the RCS of its All-1
 pub preview_passes : PreviewPasses
 unfolding previewed
 preview_passes message payload bits receiver e =
@@ -140,6 +142,7 @@ check-fits (Some check) bits small p =
     subst (λ (list : List Bool). length list ≤ 8 * reassembly_bytes) (sym p.joins)
     (tiles-room (63 * (p.check.last.w + 1)) p.check.tiles p.check.last.tile over.0 over.1)
 
+-- a preview fits in what an end keeps of a packet, where the payload has at most ten bytes
 pub preview_fits : PreviewFits
 unfolding previewed
 preview_fits message payload bits receiver is few e =

@@ -31,6 +31,7 @@ places-are (size ∷ sizes) buffer small room = (
       (rw length-drop (omega (arith, room))),
 )
 
+-- a store has 252 places, each free or with a tile of one to ten whole bytes
 pub store-places : (buffer sizes marks : List ℕ) (last : ℕ) → IsStore buffer sizes marks last
     → ArePlaces (places sizes buffer)
 store-places buffer sizes marks last s =
@@ -38,6 +39,7 @@ store-places buffer sizes marks last s =
     let all = s.all_places in
     (rw length-places all, places-are sizes buffer s.small (omega (arith, bytes, all)))
 
+-- the All-1's tile in a store is at most ten whole bytes
 pub store-last : (buffer sizes marks : List ℕ) (last : ℕ) → IsStore buffer sizes marks last
     → IsLastTile (octets (take last (drop 2520 buffer)))
 store-last buffer sizes marks last s =
@@ -45,6 +47,7 @@ store-last buffer sizes marks last s =
     let bytes = length-take last (drop 2520 buffer) in
     (omega (arith, bits, bytes, s.last_small), omega (arith, bits))
 
+-- places, a last tile and a stage whose All-1 is of one of the four windows make a receiver
 pub is_receiver : (at : Stage) (store : Store) → IsStaged at store → ArePlaces store.tiles
     → IsLastTile store.last → IsAoeReceiver (data_of at store)
 is_receiver (stage.Empty abort) store staged tiles last = tt

@@ -70,6 +70,7 @@ agrees form.SenderAbort payload (Finished tiles last answer) =
 agrees (form.Ack w c bits) payload receiver = other-agrees receiver
 agrees form.ReceiverAbort payload receiver = other-agrees receiver
 
+-- there is a preview exactly where the message joins, and it is what the check is made over
 pub preview-joins : PreviewJoins
 unfolding Agrees
 preview-joins message payload receiver = agrees message payload receiver

@@ -30,6 +30,7 @@ drop-overwritten (suc n) at (suc m) bytes [] e k = absurd (omega arith)
 drop-overwritten (suc n) at (suc m) bytes (b ∷ buffer) e k =
     drop-overwritten n at m bytes buffer (omega arith) (omega arith)
 
+-- what stands behind the bytes that are written stays
 pub drop-behind : (n at : ℕ) (bytes buffer : List ℕ) → at + length bytes ≤ n → at ≤ length buffer
     → drop n (overwritten at bytes buffer) ≡ drop n buffer
 unfolding overwritten
@@ -40,6 +41,7 @@ drop-behind (suc n) (suc at) bytes [] h k = absurd (omega arith)
 drop-behind (suc n) (suc at) bytes (b ∷ buffer) h k =
     drop-behind n at bytes buffer (omega arith) (omega arith)
 
+-- bytes that are written are read again at the same place
 pub taken-overwritten : (at : ℕ) (bytes buffer : List ℕ) → at ≤ length buffer
     → take (length bytes) (drop at (overwritten at bytes buffer)) ≡ bytes
 unfolding overwritten
@@ -47,6 +49,7 @@ taken-overwritten zero bytes buffer k = take_at bytes _ (length bytes) refl
 taken-overwritten (suc at) bytes [] k = absurd (omega arith)
 taken-overwritten (suc at) bytes (b ∷ buffer) k = taken-overwritten at bytes buffer (omega arith)
 
+-- bytes that are written within the buffer leave its length as it is
 pub length-overwritten : (at : ℕ) (bytes buffer : List ℕ) → at + length bytes ≤ length buffer
     → length (overwritten at bytes buffer) ≡ length buffer
 unfolding overwritten
@@ -67,32 +70,38 @@ held-sized [] buffer = refl
 held-sized (zero ∷ sizes) buffer = ap (λ bits. false ∷ bits) (held-sized sizes (drop 10 buffer))
 held-sized (suc more ∷ sizes) buffer = ap (λ bits. true ∷ bits) (held-sized sizes (drop 10 buffer))
 
+-- there is a bit for each size, which says whether its place holds a tile
 pub length-sized : (sizes : List ℕ) → length (sized sizes) ≡ length sizes
 unfolding sized
 length-sized [] = refl
 length-sized (size ∷ sizes) = ap suc (length-sized sizes)
 
+-- there is a place for each size, free or with a tile
 pub length-places : (sizes buffer : List ℕ) → length (places sizes buffer) ≡ length sizes
 unfolding places
 length-places [] buffer = refl
 length-places (size ∷ sizes) buffer = ap suc (length-places sizes (drop 10 buffer))
 
+-- where all sizes are 0, all places are free
 pub places-none : (n : ℕ) (buffer : List ℕ) → places (replicate n 0) buffer ≡ replicate n None
 unfolding places place_of
 places-none zero buffer = refl
 places-none (suc n) buffer = ap (λ ps. None ∷ ps) (places-none n (drop 10 buffer))
 
+-- where all sizes are 0, no bit says that a tile is held
 pub sized-none : (n : ℕ) → sized (replicate n 0) ≡ replicate n false
 unfolding sized is_sized
 sized-none zero = refl
 sized-none (suc n) = ap (λ bits. false ∷ bits) (sized-none n)
 
+-- the bit of a place says whether its size isn't 0
 pub sized-at : (sizes : List ℕ) (i : ℕ) → get_or (sized sizes) i false ≡ is_sized (get_or sizes i 0)
 unfolding sized is_sized
 sized-at [] i = refl
 sized-at (size ∷ sizes) zero = refl
 sized-at (size ∷ sizes) (suc i) = sized-at sizes i
 
+-- where a place gets a size of at least 1, its bit becomes 1
 pub sized-set : (sizes : List ℕ) (i more : ℕ)
     → sized (set sizes i (suc more)) ≡ set (sized sizes) i true
 unfolding sized is_sized
@@ -166,6 +175,7 @@ places-first sizes buffer tile some most =
     ∙ ap (λ bytes. Some (octets tile) ∷ places sizes bytes) behind
     ∙ ap (λ ps. Some (octets tile) ∷ ps) (sym (keep-nothing zero (places sizes (drop 10 buffer))))
 
+-- a tile of one to ten bytes that is written with its size at a free place is kept there
 pub places-put : (place at : ℕ) (sizes buffer tile : List ℕ) → at ≡ 10 * place
     → place < length sizes → 10 * length sizes ≤ length buffer →
     AllByRecursion (λ size. size ≤ 10) sizes → get_or sizes place 0 ≡ 0 → 1 ≤ length tile
@@ -221,10 +231,12 @@ small-set [] i size h small = tt
 small-set (s ∷ sizes) zero size h small = (h, small.1)
 small-set (s ∷ sizes) (suc i) size h small = (small.0, small-set sizes i size h small.1)
 
+-- sizes that are all 0 are at most ten
 pub small-none : (n : ℕ) → AllByRecursion (λ s. s ≤ 10) (replicate n 0)
 small-none zero = tt
 small-none (suc n) = (omega arith, small-none n)
 
+-- where all sizes are at most ten, one that is read is too
 pub small-at : (sizes : List ℕ) (i : ℕ) → AllByRecursion (λ s. s ≤ 10) sizes → get_or sizes i 0 ≤ 10
 small-at [] i small = omega arith
 small-at (s ∷ sizes) zero small = small.0
@@ -265,6 +277,8 @@ piece-at (suc i) at (size ∷ sizes) buffer e h =
     ∙ ap (λ bytes. octets (take (get_or sizes i 0) bytes))
     (drop-drop (10 * i) 10 buffer ∙ ap (λ n. drop n buffer) back)
 
+-- the tiles below a place, and then as many bytes of its ten as its size says, are the tiles up to
+-- and with that place
 pub tile-joins : (i : ℕ) (sizes buffer : List ℕ) → i < length sizes →
     joined_tiles (take (i + 1) (places sizes buffer)) ≡ joined_tiles
     (take i (places sizes buffer)) ++ octets (take (get_or sizes i 0) (drop (10 * i) buffer))

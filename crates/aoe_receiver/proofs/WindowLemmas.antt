@@ -19,16 +19,19 @@ use Rattle.aoe_receiver.proofs.StoreLemmas.{held-sized, length-sized, keep-nothi
 use Rattle.aoe_receiver.proofs.StoreLemmas.{keep-behind, small-at, tile-joins}
 use Rattle.aoe_receiver.proofs.MarksLemmas.{full-test, gap-test, length-bitmap}
 
+-- the bitmap of each of a store's four windows has 63 bits
 pub count-bitmap : (buffer sizes marks : List ℕ) (last w : ℕ) → IsStore buffer sizes marks last
     → w < 4 → length (bitmap 63 w (held_bits (places sizes buffer))) ≡ 63
 count-bitmap buffer sizes marks last w s h =
     let all = s.all_places in
     rw (held-sized sizes buffer) (length-bitmap w (sized sizes) (omega (arith, length-sized sizes)))
 
+-- a window's number in a store is the value of its bitmap
 pub mark-is : (buffer sizes marks : List ℕ) (last n w : ℕ) → IsStore buffer sizes marks last → n ≡ w
     → w < 4 → get_or marks n 0 ≡ bits_value (bitmap 63 w (held_bits (places sizes buffer)))
 mark-is buffer sizes marks last n w s e h = rw (e, held-sized sizes buffer) (s.marked w h)
 
+-- a window's number in a store is below 2^63
 pub mark-below : (buffer sizes marks : List ℕ) (last n w : ℕ) → IsStore buffer sizes marks last
     → n ≡ w → w < 4 → get_or marks n 0 < 2 ^ 63
 mark-below buffer sizes marks last n w s e h =
@@ -37,11 +40,14 @@ mark-below buffer sizes marks last n w s e h =
     (subst (λ (n : ℕ). bits_value bits < 2 ^ n) (count-bitmap buffer sizes marks last w s h)
     (bits_value-below bits))
 
+-- a window's number is the greatest of 63 bits exactly where each of its tiles is held
 pub full-mark : (bits : List Bool) (mark : ℕ) → mark ≡ bits_value bits → length bits ≡ 63
     → (mark == 2 ^ 63 - 1) ≡ all_true bits
 full-mark bits mark e count =
     rw e (subst (λ (n : ℕ). (bits_value bits == 2 ^ n - 1) ≡ all_true bits) count (full-test bits))
 
+-- in a window no tile is held behind one that isn't exactly where what its number lacks to the
+-- greatest has no bit in common with one more than it
 pub gap-mark : (bits : List Bool) (mark : ℕ) → mark ≡ bits_value bits → length bits ≡ 63
     → (bit_and (2 ^ 63 - 1 - mark) (2 ^ 63 - 1 - mark + 1) == 0) ≡ no_gap bits
 gap-mark bits mark e count =
@@ -61,6 +67,7 @@ tile-at sizes buffer bytes place size read same e at h =
     omega (arith, e, get_or_read sizes place read h at 0) in
     rw (same, count) (tile-joins place sizes buffer h)
 
+-- the bytes that are read as the tile at a place are at most ten
 pub tile-small : (sizes bytes : List ℕ) (place size read : ℕ) → size ≡ read
     → read ≡ get_or sizes place read → place < length sizes → AllByRecursion (λ s. s ≤ 10) sizes →
     length (take (10 * place + size - 10 * place) (drop (10 * place) bytes)) ≤ 10
@@ -134,6 +141,8 @@ fresh-behind at n old next is_new e =
     rw e (fresh-turn is_new (get_or (held_bits old) at false)
     (all_true (take n (drop (at + 1) (held_bits old)))))
 
+-- a turn puts the next tile at its place: what the tiles that are left then make of the places, and
+-- whether all tiles were held already, stay what they were before it
 pub keep-turn : (at : ℕ) (rest tile later : List ℕ) (old next : List (Option (List Bool)))
     (is_new kept : Bool) → 1 ≤ length rest → tile ≡ take (min 10 (length rest)) rest
     → later ≡ drop (min 10 (length rest)) rest →
@@ -167,6 +176,7 @@ pub keep-done : (at : ℕ) (rest : List ℕ) (ps : List (Option (List Bool))) �
 keep-done at [] ps e = rw tiles-none (keep-nothing at ps)
 keep-done at (byte ∷ rest) ps e = absurd (omega arith)
 
+-- with no tiles left, some tile is new exactly where not all places were held at first
 pub fresh-done : (at : ℕ) (rest : List ℕ) (ps : List (Option (List Bool))) (is_new held : Bool)
     → length rest ≡ 0 → (not is_new && all_held at (length (payload_tiles (octets rest))) ps) ≡ held
     → is_new ≡ not held

@@ -24,6 +24,7 @@ use Rattle.aoe_sender.specs.State.{AoeSenderData}
 use Rattle.aoe_sender.specs.Tiles.{padded_packet, all_tiles, in_regulars, regular_count}
 use Rattle.aoe_sender.specs.Tiles.{regular_tiles, all1_tile, last_window}
 
+-- the bits of some tiles and further ones are those of the first, and then those of the others
 pub joined-append : (xs ys : List (List Bool)) → joined (xs ++ ys) ≡ joined xs ++ joined ys
 joined-append [] ys = refl
 joined-append (x ∷ xs) ys = ap (λ bits. x ++ bits) (joined-append xs ys)
@@ -84,6 +85,7 @@ joined-part (suc k) c mtu left (size ∷ next ∷ sizes) bits e (more, same, res
     ∙ ap (λ list. take (80 * c) list) (drop-drop (80 * k) 80 bits)
     ∙ ap (λ n. take (80 * c) (drop n bits)) (sym (times-more k))
 
+-- bits are cut in as many tiles as there are sizes
 pub length-parts : (sizes : List ℕ) (bits : List Bool) → length (parts sizes bits) ≡ length sizes
 length-parts [] bits = refl
 length-parts (size ∷ sizes) bits = ap suc (length-parts sizes (drop size bits))
@@ -94,6 +96,7 @@ pub record HasTiles (s : AoeSenderData) : Type 0 where
   pub mtu : IsMtu s.mtu
   pub some : 1 ≤ length s.bits
 
+-- the mode in a sender's parameters is ACK-on-Error
 pub mode-is : (s : AoeSenderData) → HasTiles s → s.params.mode ≡ mode.AckOnError
 mode-is s h = ap (λ (p : FragParams). p.mode) h.row
 
@@ -106,6 +109,7 @@ tiles-part s k c h =
     (subst (λ m. AreTiles m s.mtu len (tile_sizes s.params s.mtu len)) (mode-is s h)
     (are-tiles s.params s.mtu len h.mtu))
 
+-- the padded packet has a tile for each 80 bits of the SCHC packet, and one for fewer that are left
 pub count-tiles : (s : AoeSenderData) → HasTiles s
     → length (all_tiles s) ≡ (length s.bits + 79) / 80
 unfolding all_tiles padded_packet
@@ -116,11 +120,13 @@ count-tiles s h =
     length-parts (tile_sizes s.params s.mtu len) (padded s.bits)
     ∙ counts-tiles s.params s.mtu len (mode-is s h) (omega arith) ∙ omega arith
 
+-- of the packet's tiles of 80 bits, all go in Regulars, or all but the one in the All-1
 pub regular_count-is : (s : AoeSenderData) → HasTiles s
     → regular_count s ≡ in_regulars s.last ((length s.bits + 79) / 80)
 unfolding regular_count
 regular_count-is s h = ap (in_regulars s.last) (count-tiles s h)
 
+-- the window that the All-1 names is that of the last of the packet's tiles of 80 bits
 pub last_window-is : (s : AoeSenderData) → HasTiles s
     → last_window s ≡ ((length s.bits + 79) / 80 - 1) / 63
 unfolding last_window
@@ -160,6 +166,7 @@ pub part-padded : (k n : ℕ) (bits : List Bool) → k % 8 ≡ 0 → n % 8 ≡ 0
 part-padded k n bits ek en = ap (λ list. take n list) (drop-padded k bits ek)
     ∙ take-padded_bits n (drop k bits) en
 
+-- bits that are padded already get no more padding
 pub padded-twice : (bits : List Bool) → padded (padded bits) ≡ padded bits
 padded-twice bits = let width : length (padded bits) ≡ 8 * ((length bits + 7) / 8) =
     length-padded bits in padded-whole (padded bits) (omega arith)

@@ -25,6 +25,7 @@ use Rattle.aoe_sender.specs.Steps.{repeated, retried_in, retried, aborted_in, ab
 use Rattle.aoe_sender.specs.Steps.{IsStateOf, IsAoeSender}
 use Rattle.aoe_sender.proofs.CutLemmas.{HasTiles}
 
+-- a sender has the parameters of ACK-on-Error, an MTU in its range and at least one bit to send
 pub has-tiles : (s : AoeSenderData) → IsAoeSender s → HasTiles s
 has-tiles s i = record { row = i.row; mtu = i.mtu; some = let least = i.least in omega arith }
 
@@ -81,6 +82,7 @@ stays-keeps : (s : AoeSenderData) → IsAoeSender s → IsAoeSender (stays s).0
 unfolding stays
 stays-keeps s i = i
 
+-- where its bits and its MTU are in their ranges, a session of ACK-on-Error that begins is a sender
 pub begun-keeps : (params : FragParams) (mtu : ℕ) (last : LastTile) (bits : List Bool)
     → params ≡ params_of mode.AckOnError → IsMtu mtu → min_cut_bits ≤ length bits
     → length bits ≤ max_session_bits → IsAoeSender (begun params mtu last bits)
@@ -119,10 +121,12 @@ sent_in-keeps s (Waiting attempts) k = k
 sent_in-keeps s Closing k = tt
 sent_in-keeps s Quiet k = tt
 
+-- once the message that is due was given, a sender still is one
 pub sent-keeps : (s : AoeSenderData) → IsAoeSender s → IsAoeSender (sent s)
 unfolding sent
 sent-keeps s i = with-state s (sent_in s s.state) i (sent_in-keeps s s.state i.state)
 
+-- what a bitmap lacks may be sent next: the numbers ascend and are of tiles that go in Regulars
 pub missing-state : (s : AoeSenderData) (window : ℕ) (bits : List Bool)
     → IsStateOf (regular_count s) (Sending (missing_of s window bits) 0)
 unfolding missing_of
@@ -182,6 +186,7 @@ heard_in-keeps (form.All1 w rcs from) s state i = stays-keeps s i
 heard_in-keeps (form.AckReq w) s state i = stays-keeps s i
 heard_in-keeps form.SenderAbort s state i = stays-keeps s i
 
+-- whatever message it hears, a sender still is one
 pub heard-keeps : (message : Message) (s : AoeSenderData) → IsAoeSender s
     → IsAoeSender (heard message s).0
 unfolding heard
@@ -202,6 +207,7 @@ retried_in-keeps s (Sending numbers attempts) i = stays-keeps s i
 retried_in-keeps s Closing i = stays-keeps s i
 retried_in-keeps s Quiet i = stays-keeps s i
 
+-- when the retransmission timer is due, a sender stays one
 pub retried-keeps : (s : AoeSenderData) → IsAoeSender s → IsAoeSender (retried s).0
 unfolding retried
 retried-keeps s i = retried_in-keeps s s.state i
@@ -214,6 +220,7 @@ aborted_in-keeps s (Waiting attempts) i = moves-keeps s Closing Aborted i tt
 aborted_in-keeps s Closing i = stays-keeps s i
 aborted_in-keeps s Quiet i = stays-keeps s i
 
+-- when it is told to abort, a sender stays one
 pub aborted-keeps : (s : AoeSenderData) → IsAoeSender s → IsAoeSender (aborted s).0
 unfolding aborted
 aborted-keeps s i = aborted_in-keeps s s.state i

@@ -41,6 +41,7 @@ use Rattle.aoe_sender.proofs.KeepsLemmas.{has-tiles, begun-keeps, sent-keeps, he
 use Rattle.aoe_sender.proofs.KeepsLemmas.{retried-keeps, aborted-keeps}
 use Rattle.aoe_sender.proofs.MessageLemmas.{IsWithin, within, payload-width, some-same}
 
+-- a sender that gives a message, hears one, tries again or aborts still is one
 pub steps-sound : (s : AoeSenderData) → IsAoeSender s → StepsSound s
 steps-sound s i =
     record {
@@ -50,6 +51,7 @@ steps-sound s i =
       aborted_is = aborted-keeps s i;
     }
 
+-- the tiles of a sender's Regulars in their order, and then the All-1's, are its padded packet
 pub tiles-packet : (s : AoeSenderData) → IsAoeSender s
     → joined (regular_tiles s) ++ all1_tile s ≡ padded_packet s
 tiles-packet s i = tiles-joined s (has-tiles s i)
@@ -170,6 +172,7 @@ due_in-spelt s Closing due i k e =
     (subst (λ (params : FragParams). Spelt params (form.SenderAbort, [])) (sym i.row) abort-spells)
 due_in-spelt s Quiet due i k e = absurd cc
 
+-- the bytes that are given spell the message that is due, and its payload gets no padding in them
 pub spells-due : (s : AoeSenderData) (due : Message × List Bool) → IsAoeSender s
     → due_message s ≡ Some due
     → Spells s.params side.Fragments due.0 due.1 (written s.params due.0 due.1)
@@ -279,6 +282,8 @@ sends-from (suc count) s k (suc m) attempts e h =
     s)) next
     ∙ split
 
+-- the payloads that a session gives from its begin on are its padded packet, once it was asked for
+-- more messages than there are tiles that go in Regulars
 pub sends-packet : (params : FragParams) (mtu : ℕ) (last : LastTile) (bits : List Bool) (count : ℕ)
     → params ≡ params_of mode.AckOnError → IsMtu mtu → min_cut_bits ≤ length bits
     → length bits ≤ max_session_bits →

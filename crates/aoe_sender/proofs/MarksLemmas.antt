@@ -15,6 +15,7 @@ use Rattle.std.proofs.Math.Dec.{leb}
 use Rattle.aoe_sender.specs.declared.to_send.TileRun.{TileRun}
 use Rattle.aoe_sender.specs.Marks.{windows_bits, numbers_of, first_run, follows}
 
+-- of a number in so many bits, the highest first, the bit at i is that of 2^(count - 1 - i)
 pub get_or-number_bits : (count number i : ℕ) (d : Bool) → i < count
     → get_or (number_bits count number) i d ≡ (number / 2 ^ (count - 1 - i) % 2 == 1)
 unfolding number_bits
@@ -85,6 +86,7 @@ unfolding missing
 missing-none k zero bits e = refl
 missing-none k (suc left) bits e = absurd (omega arith)
 
+-- a number whose bit is 1 isn't to be sent: the same ones are from it on as from the next on
 pub numbers_of-held : (words : List ℕ) (k end : ℕ) → k < end → k < length (windows_bits words)
     → get_or (windows_bits words) k false ≡ true
     → numbers_of words k end ≡ numbers_of words (k + 1) end
@@ -115,6 +117,7 @@ numbers_of-free words k end h there e =
       next,
     )
 
+-- from the end on no number is to be sent
 pub numbers_of-none : (words : List ℕ) (k end : ℕ) → end ≤ k → numbers_of words k end ≡ []
 unfolding numbers_of
 numbers_of-none words k end h = missing-none k (end - k) (drop k (windows_bits words)) (omega arith)
@@ -131,6 +134,7 @@ zeros-are : windows_bits (0 ∷ 0 ∷ 0 ∷ 0 ∷ []) ≡ replicate 252 false
 unfolding windows_bits
 zeros-are = rw (number_bits-zero 63)
 
+-- where no tile of the four windows is held, all numbers below the count are to be sent
 pub numbers_of-all : (count : ℕ) → count ≤ 252
     → numbers_of (0 ∷ 0 ∷ 0 ∷ 0 ∷ []) 0 count ≡ numbers_from 0 count
 unfolding numbers_of
@@ -161,6 +165,7 @@ full-is = refl
 abbrev pub full : ℕ
 full = 9223372036854775807
 
+-- the numbers of four windows of which each tile is held
 abbrev pub fulls : List ℕ
 fulls = full ∷ full ∷ full ∷ full ∷ []
 
@@ -214,6 +219,7 @@ behind (suc (suc (suc zero))) bitmap h =
     (after-first full 0 (bitmap ∷ []) (number_bits 63 bitmap) (behind-3 bitmap)))
 behind (suc (suc (suc (suc w)))) bitmap h = absurd (omega arith)
 
+-- where the other windows are full, what a window lacks below the count is all that is to be sent
 pub numbers_of-missing : (w bitmap count : ℕ) → w < 4
     → numbers_of (slice_set fulls w bitmap) (w * 63) count ≡ missing (w * 63) (count - w * 63)
     (number_bits 63 bitmap)
@@ -292,6 +298,7 @@ is-next words end number e =
     follows-if words end number (nat_lt number end) (number % 63 == 0)
     (get_or (windows_bits words) number false) refl refl refl e
 
+-- a number below the end has a bit in the four windows
 pub there : (words : List ℕ) (end number : ℕ) → length words ≡ 4 → end ≤ 252 → number < end
     → number < length (windows_bits words)
 there words end number four most h = omega (arith, length-windows words)
@@ -349,6 +356,7 @@ stops-if words end room k true true false four most ea eb ec e =
     rw first (run-other room k (k + 1) (numbers_of words (k + 1 + 1) end) other)
 stops-if words end room k true false false four most ea eb ec e = absurd cc
 
+-- a run ends before a number that is past the end, the first of its window, or held
 pub run-stops : (words : List ℕ) (end room k : ℕ) → length words ≡ 4 → end ≤ 252
     → follows words end (k + 1) ≡ false →
     run 63 room k (numbers_of words (k + 1) end) ≡ (0, numbers_of words (k + 1) end)
@@ -357,6 +365,7 @@ run-stops words end room k four most e =
     stops-if words end room k (nat_lt (k + 1) end) ((k + 1) % 63 == 0)
     (get_or (windows_bits words) (k + 1) false) four most refl refl refl e
 
+-- a run that has no room for a tile more ends
 pub run-full : (words : List ℕ) (end room k : ℕ) → room ≤ 0
     → run 63 room k (numbers_of words (k + 1) end) ≡ (0, numbers_of words (k + 1) end)
 run-full words end zero k h = run-room k (numbers_of words (k + 1) end)
@@ -383,6 +392,7 @@ pub record RunSoFar (words : List ℕ) (end most first more : ℕ) : Type 0 wher
       first (numbers_of words (first + 1) end)
   pub within : first + more < end
 
+-- a run takes in the next number where that follows in the same window and there is room for it
 pub run-next : (words : List ℕ) (end most first more : ℕ) → length words ≡ 4 → end ≤ 252
     → more < most → follows words end (first + more + 1) ≡ true → RunSoFar words end most first more
     → RunSoFar words end most first (more + 1)
@@ -410,6 +420,7 @@ run-next words end most first more four few some e r =
       within = let below = n.below in omega arith;
     }
 
+-- a run begins with a first number below the end, and none found yet that goes with it
 pub run-begins : (words : List ℕ) (end most first : ℕ) → first < end
     → RunSoFar words end most first 0
 run-begins words end most first h =
@@ -429,6 +440,7 @@ pub record IsRunFrom (words : List ℕ) (end most first more : ℕ) : Type 0 whe
   pub rest : numbers_of words (first + more + 1)
       end ≡ (run 63 most first (numbers_of words (first + 1) end)).1
 
+-- where no number more goes with it, what was found so far is the run, and the others are left
 pub run-done : (words : List ℕ) (end most first more : ℕ) → RunSoFar words end most first more →
     run 63 (most - more) (first + more)
     (numbers_of words (first + more + 1) end) ≡ (0, numbers_of words (first + more + 1) end)
@@ -458,6 +470,7 @@ empty-is words k end numbers four most e free = (
         let no : k ∷ numbers_of words (k + 1) end ≡ [] = sym some ∙ e ∙ none in
         absurd cc
 
+-- where the numbers are those from the end on, there is no run
 pub first-none : (words : List ℕ) (k end most : ℕ) (numbers : List ℕ)
     → numbers_of words k end ≡ numbers → end ≤ k → None ≡ first_run most numbers
 unfolding first_run
@@ -467,6 +480,7 @@ first-none words k end most numbers e h = let none : [] ≡ numbers =
 abbrev some_run : ℕ → ℕ → List ℕ → Option (TileRun × List ℕ)
 some_run k more rest = Some (record { first = k; more = more }, rest)
 
+-- a number to send, with those found to follow it, is the first run, and the others are left
 pub first-some : (words : List ℕ) (k end most more : ℕ) (numbers : List ℕ) → length words ≡ 4
     → end ≤ 252 → numbers_of words k end ≡ numbers → k < end
     → get_or (windows_bits words) k false ≡ false →

@@ -49,6 +49,7 @@ few-tiles : (last : LastTile) (len : ℕ) → 96 ≤ len → len ≤ 20160
 few-tiles InAll1 len h k = (omega arith, omega arith, omega arith)
 few-tiles InRegular len h k = (omega arith, omega arith, omega arith)
 
+-- at most 252 tiles go in Regulars; each begins within the packet, and at most one tile is left
 pub count-bound : (s : AoeSenderData) → IsAoeSender s → (regular_count s ≤ 252)
     × (80 * regular_count s < length s.bits + 80) × (length s.bits ≤ 80 * regular_count s + 80)
 count-bound s i =
@@ -61,11 +62,13 @@ pub record IsWithin (s : AoeSenderData) (first more : ℕ) : Type 0 where
   pub number : first + more < 252
   pub bits : 80 * (first + more) < length s.bits
 
+-- tiles that go in Regulars have numbers below 252, and the last begins within the packet
 pub within : (s : AoeSenderData) (first more : ℕ) → IsAoeSender s → first + more < regular_count s
     → IsWithin s first more
 within s first more i h = let b = count-bound s i in
     record { number = let few = b.0 in omega arith; bits = let few = b.1 in omega arith }
 
+-- the first tile of a Regular that lies within the packet has a number of the four windows
 pub has-number : (s : AoeSenderData) (first more : ℕ) → IsAoeSender s → IsWithin s first more
     → HasNumber s.params.mode first
 has-number s first more i w =
@@ -87,12 +90,14 @@ regular-fits first more len name payload e few there width =
     let place : 63 * name.w + (62 - name.fcn) ≡ first = omega arith in
     (omega arith, omega arith, omega arith, omega arith)
 
+-- so many tiles have 80 bits each, or together the bits that are left from the first on
 pub payload-width : (bits : List Bool) (first count : ℕ)
     → length (take (80 * count) (drop (80 * first) bits)) ≡ min (80 * count)
     (length bits - 80 * first)
 payload-width bits first count = length-take (80 * count) (drop (80 * first) bits)
     ∙ ap (λ n. min (80 * count) n) (length-drop (80 * first) bits)
 
+-- a Regular of tiles that lie within the packet can be spelt, with W and FCN of the first
 pub regular-spelt : (s : AoeSenderData) (first more : ℕ) (name : TileNumber) (payload : List Bool)
     → IsAoeSender s → IsWithin s first more → name ≡ tile_number s.params.mode first →
     payload ≡ take (80 * (1 + more)) (drop (80 * first) s.bits)
@@ -142,6 +147,7 @@ regular-written s first more name payload i e p =
     ∙ ap (λ (n : TileNumber). written s.params (form.Regular n.w n.fcn 8)
     (joined (take (1 + more) (drop first (all_tiles s))))) e
 
+-- a Regular has at most one byte of header and ten bytes a tile
 pub regular-room : (s : AoeSenderData) (first more : ℕ) (name : TileNumber) (payload : List Bool)
     → IsAoeSender s → payload ≡ take (80 * (1 + more)) (drop (80 * first) s.bits) →
     length (written s.params (form.Regular name.w name.fcn 8) payload) ≤ 1 + 10 * (1 + more)
@@ -255,6 +261,7 @@ run-due s attempts number numbers taken e k t =
           ∙ ap (λ ns. record s { state = Sending ns attempts }) (sym rest);
     }
 
+-- what stands in two equal options is equal
 pub some-same : {A : Type 0} (x y : A) → Some x ≡ Some y → x ≡ y
 some-same {A = A} x y e = ap (λ (o : Option A). Rattle.std.specs.Prelude.unwrap_or o x) e
 
@@ -270,6 +277,8 @@ regular-due s attempts (number ∷ numbers) taken i e f =
       (run 63 (most_tiles s - 1) number numbers).1,
     ) f)
 
+-- while numbers are to be sent, a Regular is due: with the first run of them, of at most as many
+-- tiles as a frame holds behind the header
 pub regular-due-at : (s : AoeSenderData) (from attempts : ℕ) (numbers : List ℕ)
     (taken : TileRun × List ℕ) → IsAoeSender s → s.state ≡ Sending numbers attempts
     → from ≡ s.mtu - 1 → Some taken ≡ first_run (from / 10 - 1) numbers
@@ -289,6 +298,7 @@ pub record IsAll1Due (s : AoeSenderData) (attempts : ℕ) : Type 0 where
   pub due : due_message s ≡ Some (all1 s)
   pub after : sent s ≡ record s { state = Waiting (attempts + 1) }
 
+-- where no number is left to send, the All-1 is due, and then the sender waits
 pub all1-due : (s : AoeSenderData) (most attempts : ℕ) (numbers : List ℕ)
     → s.state ≡ Sending numbers attempts → None ≡ first_run most numbers → IsAll1Due s attempts
 unfolding first_run due_message due_in sent sent_in
@@ -348,6 +358,8 @@ unfolding missing_of
 missing-is s w bitmap count numbers ec en = en
     ∙ ap (λ n. missing (w * 63) (n - w * 63) (number_bits 63 bitmap)) ec
 
+-- an ACK with a C of 0 about the last window does what comes of the tiles missing in it and of
+-- whether the All-1's tile came
 pub asked-at-last : (s : AoeSenderData) (w : ℕ) (bits : List Bool) (numbers : List ℕ)
     → w ≡ last_window s → numbers ≡ missing_of s w bits
     → asked s w bits (w == last_window s) (nat_lt w (last_window s)) ≡ asked_last s numbers
@@ -357,6 +369,8 @@ asked-at-last s w bits numbers e n =
     ap (λ same. asked s w bits same (nat_lt w (last_window s))) (eq-eqb w (last_window s) e)
     ∙ ap (λ ns. asked_last s ns (all1_came s.last bits)) (sym n)
 
+-- after an ACK with a C of 0 about a window below the last, the tiles missing in it are to be sent,
+-- and the attempts are counted from 0 again
 pub asked-below : (s : AoeSenderData) (w : ℕ) (bits : List Bool) (numbers : List ℕ)
     → w < last_window s → numbers ≡ missing_of s w bits
     → asked s w bits (w == last_window s) (nat_lt w (last_window s)) ≡ moves s (Sending numbers 0)

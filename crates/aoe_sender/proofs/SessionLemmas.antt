@@ -116,6 +116,7 @@ aborted-same s (Waiting attempts) = moves-same s Closing Aborted
 aborted-same s Closing = stays-same s
 aborted-same s Quiet = stays-same s
 
+-- no step changes the parameters, the MTU, the SCHC packet, or where its last tile goes
 pub keeps-session : KeepsSession
 unfolding heard retried aborted
 keeps-session s =
@@ -150,6 +151,7 @@ none-in s (Waiting attempts) = (λ h. inl refl, λ h. refl)
 none-in s Closing = (λ h. absurd (cc h), λ h. absurd (closing-moves h))
 none-in s Quiet = (λ h. inr refl, λ h. refl)
 
+-- no bytes are due exactly while the sender waits and when its session has ended
 pub none-due : NoneDue
 unfolding due_bytes due_message sender_phase
 none-due s = none-in s s.state
@@ -181,6 +183,7 @@ last-tile params mtu bits e h some =
     width ∙ length-take (80 * 1) (drop (80 * k) bits)
     ∙ omega (arith, length-drop (80 * k) bits, all, some)
 
+-- the packet gets the padding of all modes, whether its last tile goes in the All-1 or a Regular
 pub one-padding : (s : AoeSenderData) → HasTiles s
     → padded_packet s ≡ padding.padded_packet s.params s.mtu s.bits
 unfolding padded_packet padding.padded_packet padding.fill
@@ -193,9 +196,12 @@ one-padding s h =
     (padding.last_of (tiles s.params s.mtu s.bits))) % 8 = omega (arith, last, head, h.some) in
     padded-is s.bits ∙ ap (λ n. s.bits ++ replicate ((8 - n) % 8) false) same
 
+-- a sender's padded packet is that of all modes, wherever its last tile goes
 pub packet-padding : OnePadding
 packet-padding s i = one-padding s (has-tiles s i)
 
+-- the tiles of a sender's Regulars in their order, and then the All-1's, are the padded packet of
+-- all modes
 pub packet-arrives : PacketArrives
 packet-arrives s i = tiles-packet s i ∙ packet-padding s i
 
@@ -255,6 +261,7 @@ bytes-check s (Some due) bytes w rcs from payload i q e spells =
     (spelled-once s.params side.Fragments bytes (form.All1 w rcs from) due.0 payload due.1
     spells spelt).0)
 
+-- bytes that are due and spell an All-1 carry the RCS of the padded packet
 pub all1-checks : All1Checks
 unfolding due_bytes
 all1-checks s bytes w rcs from payload i e spells =

@@ -34,6 +34,7 @@ no_token_in before place [] = refl
 no_token_in before place (o ∷ options) =
     no_token_in o.number (next_place before place o.number) options
 
+-- the fields behind the header: that of the token, where it is one, and those of the options
 abbrev pub rest_of : List ℕ → List OptionData → List FieldValue
 rest_of token options = token_fields token ++ option_fields 0 0 options
 

@@ -81,6 +81,7 @@ front-front old more new e =
     ∙ ap (take (length old)) e
     ∙ take_at old more (length old) refl
 
+-- fields that stood in front still do, once more fields are put behind
 pub front-then : (old now new more : List FieldValue) → take (length old) now ≡ old
     → new ≡ now ++ more → take (length old) new ≡ old
 front-then old now new more e n = ap (take (length old)) n ∙ front-more old now more e

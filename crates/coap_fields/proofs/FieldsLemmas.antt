@@ -107,6 +107,8 @@ abbrev named_field : FieldName → ℕ → List Bool → FieldValue
 named_field name position value =
     record { at = record { name = name; position = position }; value = value }
 
+-- fields that are in order and without a gap after an option of this number and place are those of
+-- options that can stand there
 pub options-are : (before place : ℕ) (fields : List FieldValue)
     → first_held (order (20 + before) place fields) ≡ None
     → first_held (gaps before place fields) ≡ None → AreFields before place fields

@@ -34,6 +34,7 @@ pub record NoneHeld (fields : List FieldValue) : Type 0 where
   pub right : first_held (value_refusals fields) ≡ None
   pub no_gap : first_held (gaps 0 0 fields) ≡ None
 
+-- where joining isn't refused, no condition of presence, order, values or gaps holds
 pub none_held : (fields : List FieldValue) → join_refusal fields ≡ None → NoneHeld fields
 unfolding join_refusal
 none_held fields e =
@@ -199,6 +200,7 @@ pub record IsRight (version tkl : List Bool) (token : Option (List Bool)) : Type
   pub extra : ((bits_value tkl == 0) && is_some token) ≡ false
   pub size : length (unwrap_or token []) ≡ 8 * bits_value tkl
 
+-- fields that begin with the five of the header, with these values
 abbrev pub header : List Bool → List Bool → List Bool → List Bool → List Bool → List FieldValue
     → List FieldValue
 header version kind tkl code id rest =
@@ -236,6 +238,7 @@ token_fields-some : (token : List ℕ) → 0 < length token
 token_fields-some [] h = absurd (omega arith)
 token_fields-some (byte ∷ token) h = refl
 
+-- the field of the token is no option: the options are those among the fields behind it
 pub no_options : (token : List ℕ) (options : List FieldValue)
     → options_from (token_fields token ++ options) ≡ options_from options
 no_options [] options = refl
@@ -355,6 +358,7 @@ made-from version kind tkl code id rest payload wv wk wt wc wi one most e a =
       most = rw token_is size;
     }
 
+-- fields that aren't refused make a message with any payload of bytes, and are its fields
 pub made : (fields : List FieldValue) (payload : List ℕ) → join_refusal fields ≡ None
     → IsMade fields payload
 made fields payload e =

@@ -8,6 +8,8 @@ use Rattle.coap_fields.specs.Join.{join_refusal, message_of, message_from}
 use Rattle.coap_fields.proofs.JoinLemmas.{IsMade, made}
 use Rattle.coap_fields.proofs.BytesLemmas.{spelled_bytes, spelled-payload}
 
+-- fields that aren't refused and a payload of bytes make bytes that spell a message: it has these
+-- fields, and its payload is at the end
 pub made-fields : (fields : List FieldValue) (payload : List ℕ) → AreBytes payload
     → join_refusal fields ≡ None
     → MessageOf (message_from fields payload) fields
@@ -23,12 +25,14 @@ made-fields fields payload a e =
       its_payload = refl;
     }
 
+-- the bytes that fields and a payload make end with the payload
 pub made-payload : (fields : List FieldValue) (payload : List ℕ)
     → drop (length (message_from fields payload) - length payload)
     (message_from fields payload) ≡ payload
 unfolding message_from
 made-payload fields payload = spelled-payload (message_of fields payload)
 
+-- what fields that aren't refused and a payload of bytes make is bytes
 pub made-bytes : (fields : List FieldValue) (payload : List ℕ) → AreBytes payload
     → join_refusal fields ≡ None → AreBytes (message_from fields payload)
 unfolding message_from

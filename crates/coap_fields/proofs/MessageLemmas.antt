@@ -151,6 +151,7 @@ header_at-takes size first (code ∷ high ∷ []) m v t a e = absurd (cc)
 header_at-takes size first (code ∷ high ∷ low ∷ bytes) m v t a e =
     token_at-takes size first code high low bytes m v t a.0 a.1.0 a.1.1.0 a.1.1.1 e
 
+-- a message that is read from bytes can be spelled, and the bytes are its spelling
 pub read_message-takes : (bytes : List ℕ) (m : Message) → AreBytes bytes → read_message bytes ≡ Ok m
     → IsWhole bytes m
 unfolding read_message

@@ -17,18 +17,22 @@ some_pair a b x y e =
     let parts : ◌≡◌ {A = ℕ × List ℕ} (a, x) (b, y) = cc in
     (ap (λ (p : ℕ × List ℕ). p.0) parts, ap (λ (p : ℕ × List ℕ). p.1) parts)
 
+-- a number up to 12 stands in the four bits, and no byte follows
 pub nibble-low : (n : ℕ) → n < 13 → (nibble n ≡ n) × (extension n ≡ [])
 nibble-low n h = (rw (lt-ltb n 13 h), rw (lt-ltb n 13 h))
 
+-- for a number from 13 to 268 the four bits are 13, and one byte with the number less 13 follows
 pub nibble-middle : (n : ℕ) → 13 ≤ n → n < 269 → (nibble n ≡ 13) × (extension n ≡ (n - 13) ∷ [])
 nibble-middle n h k = (rw (le-ltb n 13 h, lt-ltb n 269 k), rw (le-ltb n 13 h, lt-ltb n 269 k))
 
+-- for a number from 269 on the four bits are 14, and the number less 269 follows in two bytes
 pub nibble-high : (n : ℕ) → 269 ≤ n → (nibble n ≡ 14)
     × (extension n ≡ (n - 269) / 256 ∷ (n - 269) % 256 ∷ [])
 nibble-high n h =
     let l : 13 ≤ n = omega arith in
     (rw (le-ltb n 13 l, le-ltb n 269 h), rw (le-ltb n 13 l, le-ltb n 269 h))
 
+-- the four bits that stand for a number are never 15
 pub nibble-small : (n : ℕ) → nibble n < 15
 nibble-small n =
     elim (cases_lt n 13) [
@@ -124,6 +128,7 @@ two-takes (high ∷ low ∷ bytes) n rest a e =
       rest_bytes = subst AreBytes parts.1 a.1.1;
     }
 
+-- a number that is read from four bits below 15 and bytes is spelled so, and is at most 65,804
 pub extended-takes : (bits : ℕ) (bytes : List ℕ) (n : ℕ) (rest : List ℕ) → bits < 15
     → AreBytes bytes → extended bits bytes ≡ Some (n, rest) → IsNumber bits bytes n rest
 extended-takes bits bytes n rest h a e =
@@ -159,6 +164,7 @@ two-shorter (byte ∷ []) n rest e = absurd (cc)
 two-shorter (high ∷ low ∷ bytes) n rest e =
     rw (← (some_pair (269 + 256 * high + low) n bytes rest e).1) (omega arith)
 
+-- reading a number leaves no more bytes than there were
 pub extended-shorter : (bits : ℕ) (bytes : List ℕ) (n : ℕ) (rest : List ℕ)
     → extended bits bytes ≡ Some (n, rest) → length rest ≤ length bytes
 unfolding extended

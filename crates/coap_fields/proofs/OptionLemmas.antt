@@ -18,6 +18,7 @@ take_bytes zero bytes a = tt
 take_bytes (suc count) [] a = tt
 take_bytes (suc count) (byte ∷ bytes) a = (a.0, take_bytes count bytes a.1)
 
+-- what is left of bytes behind the first `count` is bytes
 pub drop_bytes : (count : ℕ) (bytes : List ℕ) → AreBytes bytes → AreBytes (drop count bytes)
 drop_bytes zero bytes a = a
 drop_bytes (suc count) [] a = tt
@@ -27,6 +28,7 @@ drop_bytes (suc count) (byte ∷ bytes) a = drop_bytes count bytes a.1
 abbrev pub is_read : {A B : Type 0} → A → B → Result (A × B) ℕ
 is_read a x = Ok (a, x)
 
+-- where two reads are the same, so are what they read and what they leave
 pub ok_pair : {A B : Type 0} (a b : A) (x y : B) → is_read a x ≡ is_read b y → (a ≡ b) × (x ≡ y)
 ok_pair {A = A} {B = B} a b x y e =
     let parts : ◌≡◌ {A = A × B} (a, x) (b, y) = cc in
@@ -173,6 +175,7 @@ small_first first h e =
     let b : first % 16 ≡ 15 → ⊥ = eqb-false (first % 16) 15 p.1 in
     (omega (arith, a), omega (arith, b))
 
+-- an option that is read can stand after this number and place, and its spelling stood there
 pub option_at-takes : (size here before place first : ℕ) (bytes : List ℕ) (o : OptionData)
     (rest : List ℕ) → first < 256 → AreBytes bytes
     → option_at size here before place first bytes ≡ Ok (o, rest)
@@ -207,6 +210,7 @@ numbered_at-shorter size here before place bits delta bytes o rest e =
           bits bytes r.0.0 r.0.1 r.1,
     )
 
+-- reading an option leaves no more bytes than stand behind its first one
 pub option_at-shorter : (size here before place first : ℕ) (bytes : List ℕ) (o : OptionData)
     (rest : List ℕ) → option_at size here before place first bytes ≡ Ok (o, rest)
     → length rest ≤ length bytes

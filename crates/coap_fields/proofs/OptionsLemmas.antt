@@ -57,10 +57,12 @@ options_within-next : (most size before place first : ℕ) (bytes : List ℕ) (o
 unfolding options_within
 options_within-next most size before place first bytes o rest f e = rw (f, e)
 
+-- where no bytes are left, there is no option and no payload
 pub options_at-none : (size before place : ℕ) → options_at size before place [] ≡ Ok ([], [])
 unfolding options_within
 options_at-none size before place = refl
 
+-- an option that is read stands in front of those that are read from the bytes it leaves
 pub options_at-next : (size before place first : ℕ) (bytes : List ℕ) (o : OptionData)
     (rest : List ℕ) → (first == 255) ≡ false
     → option_at size (size - length (first ∷ bytes)) before place first bytes ≡ Ok (o, rest)
@@ -74,11 +76,13 @@ options_at-next size before place first bytes o rest f e =
     (options_within-enough (length bytes) (length rest) size o.number
     (next_place before place o.number) rest shorter (omega arith))
 
+-- behind the marker, 255, stands the payload
 pub options_at-marker : (size before place first : ℕ) (bytes : List ℕ) → first ≡ 255
     → options_at size before place (first ∷ bytes) ≡ payload_at size bytes
 unfolding options_within
 options_at-marker size before place first bytes e = rw e
 
+-- where the next option isn't read, the message is refused at the same byte
 pub options_at-stop : (size before place first stop : ℕ) (bytes : List ℕ) → (first == 255) ≡ false
     → option_at size (size - length (first ∷ bytes)) before place first bytes ≡ Err stop
     → options_at size before place (first ∷ bytes) ≡ Err stop
@@ -98,6 +102,7 @@ placed-next front before place size o (Ok read) =
     rw (append_assoc front (option_field o.number place_after o.value ∷ [])
     (option_fields o.number place_after read.0))
 
+-- a byte of two halves below 15 isn't the marker, 255
 pub not_marker : (a b : ℕ) → a < 15 → b < 15 → ((16 * a + b) == 255) ≡ false
 not_marker a b h k = ne_eqb (16 * a + b) 255 (λ e. absurd (omega (arith, e)))
 
@@ -138,6 +143,7 @@ options_within-again (suc most) size before place (o ∷ options) payload h k =
     (not_marker (nibble delta) (nibble count) (nibble-small delta) (nibble-small count)) read
     ∙ ap (with_option o) (options_within-again most size o.number after options payload h.1 shorter)
 
+-- options that can stand in a message, and a payload, are read from their spelling
 pub options_at-again : (size : ℕ) (options : List OptionData) (payload : List ℕ)
     → AreOptions 0 0 options
     → options_at size 0 0 (options_spelled 0 options ++ payload_spelled payload) ≡ Ok
@@ -205,6 +211,8 @@ taken-next before place first bytes o rest more options payload r t e =
           t.payload_bytes;
     })
 
+-- options and a payload that are read from at most `most` bytes can stand there, and the bytes are
+-- their spelling
 pub options_within-takes : (most size before place : ℕ) (bytes : List ℕ) (options : List OptionData)
     (payload : List ℕ) → length bytes ≤ most → AreBytes bytes
     → options_within most size before place bytes ≡ Ok (options, payload)

@@ -80,6 +80,7 @@ after rank position at h =
           inr (eqb-true rank (rank_of at.name) p.0, ltb-true position at.position p.1)
     ]
 
+-- a field that stands after one of this rank has this rank or a higher one
 pub after-at_least : (rank position : ℕ) (at : FieldAt) → stands_after rank position at ≡ true
     → rank ≤ rank_of at.name
 after-at_least rank position at h =
@@ -94,6 +95,7 @@ pub record Follows (rank position : ℕ) (f : FieldValue) : Type 0 where
   pub stands : stands_after rank position f.at ≡ true
   pub size : is_size_right f.at.name f.value ≡ true
 
+-- a field that can follow is possible, stands later in packet order, and has a right size
 pub follows : (rank position : ℕ) (f : FieldValue) → can_follow rank position f ≡ true
     → Follows rank position f
 follows rank position f h =
@@ -102,6 +104,7 @@ follows rank position f h =
     let q = and_parts (is_possible f.at.name f.at.position) (stands_after rank position f.at) p.0 in
     record { possible = q.0; stands = q.1; size = p.1 }
 
+-- where no condition of a list holds, its first one is false, and none of the others holds
 pub held-first : (test : Bool) (fault : JoinFault) (more : List (Bool × JoinFault))
     → first_held ((test, fault) ∷ more) ≡ None → (test ≡ false) × (first_held more ≡ None)
 held-first true fault more e = absurd (cc)
@@ -186,6 +189,8 @@ found_value name f fields value a e =
     let both : with_value f.at f.value ≡ field name value = rw (a, same) in
     both
 
+-- a field of the header, or the token, that is there stands first of the fields in order after the
+-- rank just below its own
 pub starts : (rank : ℕ) (fields : List FieldValue) (name : FieldName) (value : List Bool)
     → rank_of name ≡ rank + 1 → rank_of name < 20 → is_possible name 1 ≡ true
     → first_held (order rank 1 fields) ≡ None → value_in fields name ≡ Some value
@@ -221,6 +226,7 @@ order-moved rank position other place f fields h e =
     let o = order-first rank position f fields e in
     rw (o.0.possible, h, o.0.size) o.1
 
+-- a field of a higher rank stands after this one, at whatever position
 pub stands-above : (rank position : ℕ) (at : FieldAt) → rank < rank_of at.name
     → stands_after rank position at ≡ true
 stands-above rank position at h =

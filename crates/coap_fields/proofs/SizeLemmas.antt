@@ -24,6 +24,8 @@ use Rattle.coap_fields.proofs.RankLemmas.{held-first, order-first}
 use Rattle.coap_fields.proofs.WriteLemmas.{field-next}
 use Rattle.coap_fields.proofs.JoinLemmas.{NoneHeld, none_held}
 
+-- where a condition of presence holds, the first one is why the fields make no message, the sizes
+-- of options apart
 pub wrong-presence : (fields : List FieldValue) (fault : JoinFault)
     → first_held (presence fields coap_fields) ≡ Some fault
     → first_held (message_refusals fields) ≡ Some fault
@@ -31,6 +33,8 @@ wrong-presence fields fault e =
     first_held-append_some (presence fields coap_fields)
     (standing 0 0 fields ++ (value_refusals fields ++ gaps 0 0 fields)) fault e
 
+-- where presence is right, the first field that can't stand after the one before it is why the
+-- fields make no message, the sizes of options apart
 pub wrong-standing : (fields : List FieldValue) (fault : JoinFault)
     → first_held (presence fields coap_fields) ≡ None
     → first_held (standing 0 0 fields) ≡ Some fault
@@ -41,6 +45,8 @@ wrong-standing fields fault p e =
     ∙ first_held-append_some (standing 0 0 fields) (value_refusals fields ++ gaps 0 0 fields) fault
     e
 
+-- where presence and order are right, the first fault of the values is why the fields make no
+-- message, the sizes of options apart
 pub wrong-values : (fields : List FieldValue) (fault : JoinFault)
     → first_held (presence fields coap_fields) ≡ None → first_held (standing 0 0 fields) ≡ None
     → first_held (value_refusals fields) ≡ Some fault
@@ -51,6 +57,8 @@ wrong-values fields fault p o e =
     ∙ first_held-append_none (standing 0 0 fields) (value_refusals fields ++ gaps 0 0 fields) o
     ∙ first_held-append_some (value_refusals fields) (gaps 0 0 fields) fault e
 
+-- where presence, order and values are right, only a gap in the positions of an option, the first,
+-- can be why the fields make no message, the sizes of options apart
 pub wrong-gaps : (fields : List FieldValue) → first_held (presence fields coap_fields) ≡ None
     → first_held (standing 0 0 fields) ≡ None → first_held (value_refusals fields) ≡ None
     → first_held (message_refusals fields) ≡ first_held (gaps 0 0 fields)

@@ -69,6 +69,7 @@ unfolding message_in read_message
 message_in-none [] h = refl
 message_in-none (first ∷ bytes) h = absurd (omega arith)
 
+-- one byte or more are split by what the first byte and the later ones say
 pub message_in-first : (message later : List ℕ) → 1 ≤ length message → later ≡ drop 1 message
     → message_in message ≡ split_of (length message)
     (first_at (length message) (get_or message 0 0) later)
@@ -83,6 +84,7 @@ split_of-ok : (size : ℕ) (read : Result Message ℕ) (split : SplitData)
 split_of-ok size (Err stop) split e = absurd (cc)
 split_of-ok size (Ok m) split e = (m, refl, cc)
 
+-- bytes that are split spell a message with these fields, and its payload begins at this byte
 pub message_in-takes : (bytes : List ℕ) (split : SplitData) → AreBytes bytes
     → message_in bytes ≡ Ok split → MessageOf bytes split.fields split.payload_from
 unfolding message_in
@@ -97,6 +99,7 @@ message_in-takes bytes split a e =
       its_payload = sym (ap (λ (x : SplitData). x.payload_from) s.2);
     }
 
+-- bytes that spell a message are split into its fields, and its payload
 pub message_in-again : (bytes : List ℕ) (split : SplitData)
     → MessageOf bytes split.fields split.payload_from → message_in bytes ≡ Ok split
 unfolding message_in
@@ -108,6 +111,7 @@ message_in-again bytes split h =
     (sym h.its_fields)
     ∙ ap (λ (n : ℕ). split_parts split.fields n) (sym h.its_payload)
 
+-- bytes that spell a message have one list of fields, and one byte at which the payload begins
 pub one_split : (bytes : List ℕ) (these those : List FieldValue) (here there : ℕ)
     → MessageOf bytes these here → MessageOf bytes those there → (these ≡ those) × (here ≡ there)
 one_split bytes these those here there h k =

@@ -141,6 +141,7 @@ stops-message_in (first ∷ bytes) stop s =
           (header-stops (length (first ∷ bytes)) first bytes stop b.1))
     ]
 
+-- no message is read, for this byte, exactly where the bytes stop to be one there
 pub stops_exactly : (bytes : List ℕ) (stop : ℕ) → AreBytes bytes
     → (message_in bytes ≡ Err stop) ↔ StopsAt bytes stop
 stops_exactly bytes stop a = (message_in-stops bytes stop a, stops-message_in bytes stop)

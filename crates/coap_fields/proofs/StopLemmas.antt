@@ -46,6 +46,7 @@ two-there [] h = absurd (omega arith)
 two-there (byte ∷ []) h = absurd (omega arith)
 two-there (high ∷ low ∷ bytes) h = refl
 
+-- where fewer bytes follow than the four bits ask for, no number is read
 pub extended-lacks : (bits : ℕ) (bytes : List ℕ) → length bytes < bytes_more bits
     → extended bits bytes ≡ None
 unfolding extended
@@ -64,6 +65,7 @@ extended-lacks bits bytes h =
       ]
     ]
 
+-- where the bytes that four bits ask for follow, the number meant is read, and the rest is left
 pub extended-there : (bits : ℕ) (bytes : List ℕ) → bytes_more bits ≤ length bytes
     → extended bits bytes ≡ Some (number_meant bits bytes, drop (bytes_more bits) bytes)
 unfolding extended
@@ -293,6 +295,7 @@ rest-within size before place (first ∷ bytes) stop s =
           (omega arith) b.1
     ]
 
+-- the byte at which bytes stop to be a message is at most their number
 pub stops-within : (bytes : List ℕ) (stop : ℕ) → StopsAt bytes stop → stop ≤ length bytes
 stops-within [] stop s = omega (arith, s)
 stops-within (first ∷ bytes) stop s =
@@ -317,6 +320,8 @@ unfolding message_in
 message_in-stops bytes stop a e =
     read_message-stops bytes stop a (split_of-stop (length bytes) (read_message bytes) stop e)
 
+-- a fault for which no message is read is want of memory, or the byte at which the bytes stop to be
+-- one
 pub refusal-stops : (bytes : List ℕ) (fault : SplitFault) → AreBytes bytes
     → IsRefusal fault (message_in bytes) → IsStop fault bytes
 refusal-stops bytes Memory a h = tt

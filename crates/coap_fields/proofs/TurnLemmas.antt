@@ -16,6 +16,7 @@ use Rattle.coap_fields.proofs.OptionLemmas.{option_at-shorter}
 use Rattle.coap_fields.proofs.OptionsLemmas.{options_at-none, options_at-next, options_at-marker}
 use Rattle.coap_fields.proofs.OptionsLemmas.{options_at-stop, placed-next}
 
+-- a split into these fields, and a payload from this byte on
 abbrev pub split_parts : List FieldValue → ℕ → Result SplitData ℕ
 split_parts fields from = Ok (record { fields = fields; payload_from = from })
 
@@ -25,6 +26,7 @@ placed-end : (front : List FieldValue) (before place size : ℕ) (payload : List
 unfolding option_fields
 placed-end front before place size payload = rw (append-nil front)
 
+-- where no byte is left, the fields so far are all, and the payload begins at the end
 pub turn-end : (front : List FieldValue) (before place size : ℕ) (rest : List ℕ)
     (all : Result SplitData ℕ) → length rest < 1
     → placed front before place size (options_at size before place rest) ≡ all
@@ -54,6 +56,7 @@ turn-payload front before place size (first ∷ rest) later all from l h m e f p
     ∙ placed-end front before place size later
     ∙ ap (split_parts front) (sym f)
 
+-- a marker with nothing behind it is refused at the end of the message
 pub turn-payload_stop : (front : List FieldValue) (before place size : ℕ) (rest later : List ℕ)
     (all : Result SplitData ℕ) (fault : SplitFault) → later ≡ drop 1 rest → 1 ≤ length rest
     → get_or rest 0 0 ≡ 255

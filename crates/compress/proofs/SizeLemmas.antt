@@ -6,9 +6,11 @@ use Rattle.schc_bits.proofs.NumberBits.{length-number_bits}
 use Rattle.rule_model.specs.Residue.{size_code}
 use Rattle.rule_model.proofs.ResidueLemmas.{size_code-short, size_code-byte, size_code-long}
 
+-- a size below 15 takes 4 bits
 pub length-short : (size : ℕ) → size < 15 → 4 ≡ length (size_code size)
 length-short size h = rw (size_code-short size h, length-number_bits 4 size)
 
+-- a size of 15 to 254 takes 12 bits
 pub length-byte : (size : ℕ) → 15 ≤ size → size < 255 → 12 ≡ length (size_code size)
 length-byte size h k =
     rw (
@@ -18,6 +20,7 @@ length-byte size h k =
       length-number_bits 8 size,
     )
 
+-- a size from 255 on takes 28 bits
 pub length-long : (size : ℕ) → 255 ≤ size → 28 ≡ length (size_code size)
 length-long size h =
     rw (

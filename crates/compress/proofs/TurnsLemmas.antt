@@ -36,6 +36,7 @@ along direction fields (e ∷ entries) =
       | false ↦ along direction fields entries
     ]
 
+-- joined entry by entry, without those not used in the direction, what is sent is the residue
 pub joined-is : (rule : RuleData) (direction : Direction) (fields : List FieldValue)
     → joined direction fields rule.entries ≡ residue_of rule direction fields
 joined-is rule direction fields = along direction fields rule.entries
@@ -52,6 +53,7 @@ holds_along direction fields (e ∷ entries) h = (
       (λ d among. h d (Contains-rest e entries d among)),
 )
 
+-- of fields sized for the rule, what each entry used in the direction sends with its size has one
 pub TurnsHold-from_IsSized : (rule : RuleData) (direction : Direction) (fields : List FieldValue)
     → IsSized rule direction fields → TurnsHold direction fields rule.entries
 TurnsHold-from_IsSized rule direction fields sized =

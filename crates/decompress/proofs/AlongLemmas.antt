@@ -33,10 +33,12 @@ use Rattle.decompress.proofs.EntryLemmas.{FitsKind, SentBy, SentFits, IsRegular,
 abbrev pub kept : Direction → List EntryData → List EntryData
 kept direction entries = filter (λ e. covers e.direction direction) entries
 
+-- an entry that is used in the direction is kept, before those that are kept of the later ones
 pub kept-used : (direction : Direction) (e : EntryData) (later : List EntryData)
     → covers e.direction direction ≡ true → kept direction (e ∷ later) ≡ e ∷ kept direction later
 kept-used direction e later t = rw t
 
+-- an entry that isn't used in the direction isn't kept
 pub kept-unused : (direction : Direction) (e : EntryData) (later : List EntryData)
     → covers e.direction direction ≡ false → kept direction (e ∷ later) ≡ kept direction later
 kept-unused direction e later f = rw f
@@ -46,6 +48,7 @@ abbrev pub written : Direction → List FieldValue → List EntryData → List B
 written direction fields entries =
     flat_map (λ e. entry_residue e (value_of fields (field_of e))) (kept direction entries)
 
+-- at an entry that is used its value is read, and then the later entries with its field before them
 pub restore-used : (iids : Iids) (direction : Direction) (number : ℕ) (before : List FieldValue)
     (e : EntryData) (later : List EntryData) (bits : List Bool)
     → covers e.direction direction ≡ true
@@ -54,6 +57,7 @@ pub restore-used : (iids : Iids) (direction : Direction) (number : ℕ) (before 
     (λ value rest. restore_from iids direction (number + 1) (with_field before e value) later rest)
 restore-used iids direction number before e later bits t = rw t
 
+-- at an entry that isn't used nothing is read, but it counts in the numbers of the later ones
 pub restore-unused : (iids : Iids) (direction : Direction) (number : ℕ) (before : List FieldValue)
     (e : EntryData) (later : List EntryData) (bits : List Bool)
     → covers e.direction direction ≡ false
@@ -79,6 +83,7 @@ kept_all P direction (e ∷ later) h =
 abbrev pub Lacks : List FieldValue → FieldAt → Type 0
 Lacks fields at = AllByRecursion (λ f. same_field f.at at ≡ false) fields
 
+-- a field that isn't among the fields has no bits
 pub value_of-lacks : (fields : List FieldValue) (at : FieldAt) → Lacks fields at
     → value_of fields at ≡ []
 value_of-lacks [] at h = refl
@@ -95,23 +100,27 @@ value_of-append (f ∷ fields) more at h =
       | false ↦ value_of-append fields more at h
     ]
 
+-- the value of a field is that of the first one with its name and position
 pub value_of-found : (fields : List FieldValue) (f : FieldValue) (more : List FieldValue)
     (at : FieldAt) → Lacks fields at → same_field f.at at ≡ true
     → value_of (fields ++ f ∷ more) at ≡ f.value
 value_of-found [] f more at h t = rw t
 value_of-found (g ∷ fields) f more at h t = rw h.0 (value_of-found fields f more at h.1 t)
 
+-- a field that is in neither of two lists isn't in the two joined
 pub Lacks-append : (fields more : List FieldValue) (at : FieldAt) → Lacks fields at → Lacks more at
     → Lacks (fields ++ more) at
 Lacks-append [] more at h k = k
 Lacks-append (f ∷ fields) more at h k = (h.0, Lacks-append fields more at h.1 k)
 
+-- where none of the entries has this field, what is restored of them hasn't it either
 pub Lacks-restored : (iids : Iids) (fields : List FieldValue) (at : FieldAt)
     (entries : List EntryData) → AllByRecursion (λ d. same_field (field_of d) at ≡ false) entries
     → Lacks (map (restored_field iids fields) entries) at
 Lacks-restored iids fields at [] h = tt
 Lacks-restored iids fields at (e ∷ entries) h = (h.0, Lacks-restored iids fields at entries h.1)
 
+-- the token length field of CoAP
 abbrev pub token_length : FieldAt
 token_length = record { name = CoapTkl; position = 1 }
 
@@ -144,6 +153,8 @@ FitsKind-token a b (Fixed width) skip sent h k = k
 FitsKind-token a b TokenLength skip sent h k = k ∙ h refl
 FitsKind-token a b Variable skip sent h k = k
 
+-- what is sent of a value fits among other fields too, if these have the same token length where
+-- the entry's length is a token's
 pub SentBy-token : (a b : List FieldValue) (action : Action) (kind : Length) (operator : Operator)
     (targets : List (List Bool)) (value : List Bool)
     → (kind ≡ TokenLength → token_bits a ≡ token_bits b)

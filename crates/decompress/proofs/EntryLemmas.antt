@@ -76,6 +76,7 @@ SentBy fields Lsb kind operator targets value =
     FitsKind fields kind (msb_bits operator) (drop (msb_bits operator) value)
 SentBy fields _ kind operator targets value = Unit {0}
 
+-- the same of an entry, with its action, length, operator and targets
 abbrev pub SentFits : List FieldValue → EntryData → List Bool → Type 0
 SentFits fields e value = SentBy fields e.action e.length e.operator e.targets value
 
@@ -137,6 +138,7 @@ again_by iids fields Compute e value rest h = refl
 again_by iids fields DevIid e value rest h = refl
 again_by iids fields AppIid e value rest h = refl
 
+-- what an entry sends of a value is read as what is restored of it, whatever follows
 pub entry_at-again : (iids : Iids) (fields : List FieldValue) (e : EntryData)
     (value rest : List Bool) → SentFits fields e value
     → entry_at iids fields e (entry_residue e value ++ rest) ≡ Ok
@@ -186,6 +188,7 @@ RegularBy MappingSent operator targets = (0 < length targets) × (all_different 
 RegularBy Lsb operator targets = msb_bits operator ≤ length (first_target targets)
 RegularBy _ operator targets = Unit {0}
 
+-- a mapping has targets, all different; with LSB the target has the bits that MSB takes from it
 abbrev pub IsRegular : EntryData → Type 0
 IsRegular e = RegularBy e.action e.operator e.targets
 
@@ -279,6 +282,8 @@ takes_by iids fields AppIid e bits value rest h q = let p =
     ok_parts (value_by iids fields AppIid e bits) (number_bits 64 iids.app) value bits rest refl q
     in (p.1, p.0, tt)
 
+-- where an entry reads a value, its residue stands in front of the bits left, the value is restored
+-- as it is, and what is sent of it has the length that is read
 pub entry_at-takes : (iids : Iids) (fields : List FieldValue) (e : EntryData)
     (bits value rest : List Bool) → IsRegular e → entry_at iids fields e bits ≡ Ok (value, rest)
     → (bits ≡ entry_residue e value ++ rest) × (restored_value iids e value ≡ value)

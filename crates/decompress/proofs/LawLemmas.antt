@@ -48,6 +48,7 @@ all_place P [] h x k l e = absurd (omega arith)
 all_place P (y ∷ xs) h x zero l e = subst P e h.0
 all_place P (y ∷ xs) h x (suc k) l e = all_place P xs h.1 x k (omega arith) e
 
+-- what holds all along a list holds of each element in it
 pub all_at : {X : Type 0} → (P : X → Type 0) (xs : List X) → AllByRecursion P xs → (x : X)
     → Contains xs x → P x
 all_at P xs h x among = all_place P xs h x among.0 among.1 among.2
@@ -81,6 +82,7 @@ unfilter_place {X} test (y ∷ xs) x k l e =
           (Contains-rest y xs x later.0, later.1)
     ]
 
+-- an element of what a test keeps is one of the list, and passes the test
 pub unfilter : {X : Type 0} → (test : X → Bool) (xs : List X) (x : X) → Contains (filter test xs) x
     → Contains xs x × (test x ≡ true)
 unfilter test xs x among = unfilter_place test xs x among.0 among.1 among.2
@@ -157,6 +159,7 @@ passes_at rule direction admitted e among =
     (EntryHolds-from_IsAdmitted rule admitted e
     (unfilter (λ d. covers d.direction direction) rule.entries e among).0)
 
+-- each entry of an admitted rule is as reading needs it
 pub sound_all : (rule : RuleData) → IsAdmitted rule → AllByRecursion IsSound rule.entries
 sound_all rule admitted =
     all_from IsSound rule.entries
@@ -241,6 +244,7 @@ there_place (g ∷ fields) at f (suc k) l e a =
           (later.0, Contains-rest g fields later.0 later.1, later.2, rw n later.3)
     ]
 
+-- the value of a field that is there is that of one with the same name and position
 pub value_of-there : (fields : List FieldValue) (f : FieldValue) → Contains fields f
     → (g : FieldValue) × Contains fields g × (g.at ≡ f.at) × (value_of fields f.at ≡ g.value)
 value_of-there fields f among = there_place fields f.at f among.0 among.1 among.2 refl
@@ -282,6 +286,7 @@ read-from_Stands rule iids direction fields bits rest admitted stands =
     (restored_field iids fields e) (there e used) refl))
     refl stands.restored
 
+-- with an admitted rule, what is read is what stands there, and all that stands there is read
 pub reads_exactly : (rule : RuleData) (iids : Iids) (direction : Direction)
     (fields : List FieldValue) (bits rest : List Bool) → IsAdmitted rule
     → (restore_at rule iids direction bits ≡ Ok (fields, rest)) ↔ Stands rule iids direction fields

@@ -111,6 +111,8 @@ restored_agrees iids computed DevIid operator name targets value pair lossy comp
 restored_agrees iids computed AppIid operator name targets value pair lossy compute holds made =
     sym made
 
+-- a value that agrees with its entry, whose operator and action are an allowed pair, is restored as
+-- it is, but where the entry drops or computes it
 pub restored_value-agrees : (iids : Iids) (computed : Computed) (e : EntryData) (value : List Bool)
     → is_allowed_pair e.operator e.action ≡ true → is_lossy e.operator e.action ≡ false
     → is_compute e.action ≡ false → Agrees iids computed e value

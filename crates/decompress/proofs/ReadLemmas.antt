@@ -33,21 +33,25 @@ ok_or-ok : {A : Type 0} → (found : Option A) (x : A) → ok_or found Short ≡
 ok_or-ok None x e = absurd (cc)
 ok_or-ok (Some y) x e = cc
 
+-- so many bits in front of others are taken, and the others are left
 pub taken_at-again : (count : ℕ) (front rest : List Bool) → length front ≡ count
     → taken_at count (front ++ rest) ≡ Ok (front, rest)
 taken_at-again count front rest h =
     ap (λ found. ok_or found Short) (bits_at-again count front rest h)
 
+-- the bits that are taken stood in front of those left, and are as many as was asked for
 pub taken_at-takes : (count : ℕ) (bits front rest : List Bool)
     → taken_at count bits ≡ Ok (front, rest) → (bits ≡ front ++ rest) × (length front ≡ count)
 taken_at-takes count bits front rest e =
     bits_at-takes count bits front rest (ok_or-ok (bits_at count bits) (front, rest) e)
 
+-- a number that was written in a width that it fits is read, and the bits after it are left
 pub counted_at-again : (count number : ℕ) (rest : List Bool) → number < 2 ^ count
     → counted_at count (number_bits count number ++ rest) ≡ Ok (number, rest)
 counted_at-again count number rest h =
     ap (λ found. ok_or found Short) (number_at-again count number rest h)
 
+-- a number that is read in a width stood there in it, and fits it
 pub counted_at-takes : (count : ℕ) (bits : List Bool) (number : ℕ) (rest : List Bool)
     → counted_at count bits ≡ Ok (number, rest) → (bits ≡ number_bits count number ++ rest)
     × (number < 2 ^ count)
@@ -86,6 +90,7 @@ size-long size rest h k =
       le-ltb size 255 h,
     )
 
+-- a size of at most 65,535 is read in its shortest form, and the bits after it are left
 pub size_at-again : (size : ℕ) (rest : List Bool) → size ≤ 65535
     → size_at (size_code size ++ rest) ≡ Ok (size, rest)
 size_at-again size rest h =
@@ -200,6 +205,7 @@ first-takes number bits size rest h e =
           (rw (parts.0, parts.1, size_code-short size under), omega arith)
     ]
 
+-- a size that is read stood there in its shortest form, and is at most 65,535
 pub size_at-takes : (bits : List Bool) (size : ℕ) (rest : List Bool)
     → size_at bits ≡ Ok (size, rest) → (bits ≡ size_code size ++ rest) × (size ≤ 65535)
 unfolding size_at

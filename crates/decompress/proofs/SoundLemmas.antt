@@ -44,6 +44,7 @@ pub record Passes (stack : Stack) (e : EntryData) : Type 0 where
   pub msb : is_msb_wrong e.operator e.name e.targets ≡ false
   pub computed : is_computed_by e.action e.name ≡ true
 
+-- an entry to which no finding applies passes the tests on length, pair, targets, MSB and computing
 pub Passes-from_EntryHolds : (stack : Stack) (e : EntryData) → EntryHolds stack e → Passes stack e
 Passes-from_EntryHolds stack e h =
     let fits : List Bool → Bool =
@@ -117,6 +118,8 @@ token_named CoapToken h = refl
 token_named (CoapOption number) h = absurd (false≢true h)
 token_named name h = absurd (false≢true h)
 
+-- an entry that passes the tests has the targets that reading needs, and only a token a token's
+-- length
 pub IsSound-from_Passes : (stack : Stack) (e : EntryData) → Passes stack e → IsSound e
 IsSound-from_Passes stack e p =
     record {
@@ -289,6 +292,7 @@ IsSendable-from_sent iids fields stack e value p sent restored =
       size_holds = size_holds fields e.length e.action e.operator e.targets value sent;
     }
 
+-- a value that fits an admitted entry and is restored as it is has its field's width, if any
 pub WidthHolds-from_sent : (iids : Iids) (fields : List FieldValue) (stack : Stack) (e : EntryData)
     (value : List Bool) → Passes stack e → SentFits fields e value
     → restored_value iids e value ≡ value → WidthHolds e.name value
@@ -347,6 +351,7 @@ sent_by fields Compute operator name kind targets value pair count msb h k l m n
 sent_by fields DevIid operator name kind targets value pair count msb h k l m n = tt
 sent_by fields AppIid operator name kind targets value pair count msb h k l m n = tt
 
+-- of a value that can be sent, with its field's width, what is sent has the length that is read
 pub SentFits-from_sendable : (fields : List FieldValue) (stack : Stack) (e : EntryData)
     (value : List Bool) → Passes stack e → WidthHolds e.name value → IsSendable fields e value
     → SentFits fields e value

@@ -51,6 +51,7 @@ abbrev pub IsFresh : Direction → List FieldValue → List EntryData → Type 0
 IsFresh direction before entries =
     AllByRecursion (λ d. Lacks before (field_of d)) (kept direction entries)
 
+-- before any field is read, each entry is of another field than those read
 pub IsFresh-none : (entries : List EntryData) → AllByRecursion (λ d. Lacks [] (field_of d)) entries
 IsFresh-none [] = tt
 IsFresh-none (e ∷ entries) = (tt, IsFresh-none entries)

@@ -139,6 +139,7 @@ pub found-not_next : (old : EditionData) (number : ℕ) (rules : List Listed) (f
 found-not_next old number rules found given before g b differ e =
     subst (IsFirstFinding old number rules) (sym e) (number_not_next (λ next. differ (omega arith)))
 
+-- where the number is the next one and a limit is exceeded, too-large is the finding
 pub found-too_large : (old : EditionData) (number : ℕ) (rules : List Listed) (found : Finding)
     (given before : ℕ) (within : Bool) → given ≡ number → before ≡ old.number → given ≡ before + 1
     → IsTrue within ↔ IsWithinLimits number rules → within ≡ false
@@ -147,6 +148,7 @@ found-too_large old number rules found given before within g b next limits e f =
     subst (IsFirstFinding old number rules) (sym f)
     (too_large (omega arith) (λ w. let holds : within ≡ true = limits.1 w in absurd cc))
 
+-- where number and limits are right, id-twice is the finding, of the first RuleID that repeats one
 pub found-id_twice : (old : EditionData) (number : ℕ) (rules : List Listed) (found : Finding)
     (id given before : ℕ) (within : Bool) → given ≡ number → before ≡ old.number
     → given ≡ before + 1 → IsTrue within ↔ IsWithinLimits number rules → within ≡ true
@@ -156,6 +158,7 @@ found-id_twice old number rules found id given before within g b next limits e r
     subst (IsFirstFinding old number rules) (sym f)
     (id_twice id (omega arith) (limits.0 e) repeated)
 
+-- where number and limits are right and no RuleID stands twice, the lowest loss is the finding
 pub found-lost : (old : EditionData) (number : ℕ) (rules : List Listed) (found : Finding) (id : ℕ)
     (k : FindingKind) (given before : ℕ) (loss : Loss) (within : Bool) → given ≡ number
     → before ≡ old.number → given ≡ before + 1 → IsTrue within ↔ IsWithinLimits number rules
@@ -216,6 +219,7 @@ none-follows old number rules found first new made follows =
     (Follows-IsPermutation old new.number new.rules rules
     (IsPermutation-sym rules new.rules made.1) follows))
 
+-- where a finding is of edition and rules as they were read, no edition made of the rules follows
 pub none-follows-at : (old : EditionData) (n number : ℕ) (rs listed rules : List Listed)
     (found : Finding) → n ≡ old.number → rs ≡ old.rules → listed ≡ rules
     → IsFirstFinding (record { number = n; rules = rs }) number listed found → (new : EditionData)

@@ -16,6 +16,7 @@ kept-cases : (earlier later : List Listed) (id : ℕ) (these : Listed) (o : Opti
 kept-cases earlier later id these None e f same = absurd same
 kept-cases earlier later id these (Some those) e f same = (those, f, same)
 
+-- where meanings are kept, the later rules list each RuleID of the earlier with the same rule
 pub kept : (earlier later : List Listed) (id : ℕ) (these : Listed) → KeepsMeanings earlier later
     → lookup earlier id ≡ Some these → (those : Listed) × (lookup later id ≡ Some those)
     × (those.rule ≡ these.rule)

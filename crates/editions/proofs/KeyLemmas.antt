@@ -280,6 +280,7 @@ unfolding suspects
 index-empty up down u d way.Up headers key = u headers key
 index-empty up down u d way.Down headers key = d headers key
 
+-- tables that have, for each key, the candidates that take it have the suspects of these rules
 pub index-of : (rules : List Listed) (up down : StackTables)
     → ((headers : Stack) (key : ℕ)
     → ids_in (table_of_stack up headers) key ≡ ids_wanting key (candidates way.Up headers rules))

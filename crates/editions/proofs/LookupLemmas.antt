@@ -19,6 +19,7 @@ take-end [] (suc i) h = refl
 take-end (x ∷ xs) zero h = absurd (omega arith)
 take-end (x ∷ xs) (suc i) h = ap (λ ys. x ∷ ys) (take-end xs i (omega arith))
 
+-- where the test finds nothing listed, nothing is
 pub is_some-none : (o : Option Listed) → is_some o ≡ false → o ≡ None
 is_some-none None e = refl
 is_some-none (Some x) e = absurd cc

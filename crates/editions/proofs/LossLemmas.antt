@@ -177,6 +177,7 @@ unfolding diverged
 diverged-found old new id loss asc low =
     ap (option_map (λ (lost : LostId). lost.id)) (lowest_loss-found old new id loss asc low)
 
+-- where the new rules keep each RuleID of the old, there is none at which they diverge
 pub diverged-none : (old new : List Listed) → IsAscending old → ((id : ℕ) → KeepsId old new id)
     → diverged old new ≡ None
 unfolding diverged

@@ -113,6 +113,7 @@ repeat_after-found earlier (x ∷ xs) id (suc place) at stood once =
 pub first_repeat-none : (rules : List Listed) → NoIdTwice rules → first_repeat rules ≡ None
 first_repeat-none rules once = repeat_after-none [] rules once
 
+-- where the search finds no RuleID that repeats an earlier one, none stands twice
 pub NoIdTwice-from_first_repeat : (rules : List Listed) → first_repeat rules ≡ None
     → NoIdTwice rules
 NoIdTwice-from_first_repeat rules e = repeat_after-once [] rules (λ id. omega arith) e

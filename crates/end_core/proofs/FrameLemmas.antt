@@ -28,6 +28,7 @@ pub ruleset frame_sizes = length-padded_bytes
 abbrev pub frame_padding : Packed → List Bool
 frame_padding form = replicate ((8 - length (after_id form.bits) % 8) % 8) false
 
+-- at most 7 zero bits stand behind the SCHC packet in its frame
 pub length-frame_padding : (form : Packed) → length (frame_padding form) ≤ 7
 length-frame_padding form =
     rw (length-replicate ((8 - length (after_id form.bits) % 8) % 8) false) (omega arith)

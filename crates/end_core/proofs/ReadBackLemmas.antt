@@ -91,6 +91,7 @@ whole-below id true b c d e true f h = omega (arith, ltb-true id 224 (sym f))
 whole-below id true b c d e false f h = absurd cc
 whole-below id false b c d e g f h = absurd cc
 
+-- the RuleID with which a sound edition writes a packet fits in 8 bits
 pub packed-below : (edition : EditionData) (iids : Iids) (way : Direction) (packet : List ℕ)
     → IsSound edition → AreBytes packet → (packed edition iids way packet).rule_id < 256
 unfolding is_whole

@@ -103,9 +103,13 @@ pub turn-serves : (end : EndData) (given : Choice) → turn end ≡ Serves given
     → choice end.sessions ≡ given
 turn-serves end given e = turn-cases end (Serves given) e
 
+-- the packet that the turn sends whole fits and waits first, nothing is due of the sessions,
+-- and none is sending, waiting or closing
 pub turn-sends : (end : EndData) (form : Packed) → turn end ≡ Sends form → IsSent end form
 turn-sends end form e = turn-cases end (Sends form) e
 
+-- the packet with which the turn begins a session has its turn so too, doesn't fit one frame,
+-- and a session may begin
 pub turn-begins : (end : EndData) (form : Packed) → turn end ≡ Begins form → IsBegun end form
 turn-begins end form e = turn-cases end (Begins form) e
 

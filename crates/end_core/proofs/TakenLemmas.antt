@@ -106,6 +106,7 @@ session-reads this frame (Answers params) r by e =
 session-reads this frame Whole r by e = absurd by
 session-reads this frame Unknown r by e = absurd by
 
+-- where an end reads the assembly that a frame of a session makes whole, it hands the packet up
 pub taken-joins : (this : EndData) (frame : FrameData) (assembly : List Bool) (r : UnpackedData)
     → IsSessionMeaning (meaning_of this.role frame.port) → assembly_of this frame ≡ Some assembly
     → read_bits this assembly ≡ Ok r

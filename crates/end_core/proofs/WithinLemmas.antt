@@ -60,6 +60,7 @@ bits_within {edition} {iids} {way} {bits} {packet} {id} frame e d =
     decodes_within edition iids way frame packet id
     (subst (λ b. Decodes edition iids way b packet id) e d)
 
+-- a packet read from the bits of a frame has at most 65,575 bytes, or no more than the frame
 pub read_within : (edition : EditionData) (iids : Iids) (way : Direction) {bits : List Bool}
     {read : Result UnpackedData UnpackFault} {unpacked : UnpackedData} (frame : FrameData)
     → bits ≡ carried frame → IfOk read (λ u. Decodes edition iids way bits u.packet u.rule_id)

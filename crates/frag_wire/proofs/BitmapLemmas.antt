@@ -63,11 +63,14 @@ place-stop place left h other =
     ∙ ap after_last_zero (sym (number_bits-last (place - 1) left))
     ∙ ap (λ n. after_last_zero (number_bits n left)) e
 
+-- of no bits the place after the last 0 bit is 0
 pub place-none : (place left : ℕ) → place ≤ 0 → place ≡ after_last_zero (number_bits place left)
 unfolding number_bits
 place-none zero left h = refl
 place-none (suc place) left h = absurd (omega arith)
 
+-- from the place after the last 0 bit to the next boundary of a byte, or to the bitmap's end: so
+-- many bits of an answer are sent
 pub kept_length-is : (header window bitmap place : ℕ)
     → place ≡ after_last_zero (number_bits window bitmap)
     → min (8 * ((header + place + 7) / 8)) (header + window) ≡ kept_length header
@@ -137,6 +140,7 @@ take-ones bits k h ones =
     ∙ ap (λ list. take k bits ++ list) (sym (drop-ones bits k ones))
     ∙ take-append-drop k bits
 
+-- what is sent of an answer has all before the bitmap and each 0 of it, and no more than all of it
 pub kept-bounds : (header : ℕ) (bits : List Bool) → (header ≤ kept_length header bits)
     × (kept_length header bits ≤ header + length bits)
     × (header + after_last_zero bits ≤ kept_length header bits)
@@ -145,11 +149,13 @@ kept-bounds header bits =
     let within : after_last_zero bits ≤ length bits = after-within bits in
     (omega (arith, within), omega (arith, within), omega (arith, within))
 
+-- an answer whose bitmap isn't sent to its end fills whole bytes
 pub kept-boundary : (header : ℕ) (bits : List Bool) → kept_length header bits < header + length bits
     → kept_length header bits % 8 ≡ 0
 unfolding kept_length
 kept-boundary header bits h = omega arith
 
+-- the bits before the bitmap and those of it that are sent are all that is sent of an answer
 pub length-kept_bits : (header : ℕ) (bits : List Bool)
     → header + length (kept_bits header bits) ≡ kept_length header bits
 unfolding kept_bits
@@ -250,6 +256,8 @@ filled-fits number there size h w s =
     le-mul_of_pos_right (number + 1) (pow_pos (size - there)) in
     (mod-eq_of_lt (omega (arith, most, whole, top)), omega (arith, some))
 
+-- of a bitmap of at most 63 bits, the number in those that are there, filled up with ones, is what
+-- the bitmap is read as
 pub bitmap_in-value : (bytes : List ℕ) (from size there number : ℕ) → from ≤ 8 * length bytes
     → size ≤ 63 → there ≡ min (8 * length bytes - from) size → number ≡ number_in from there bytes
     → number < 2 ^ there

@@ -137,6 +137,7 @@ mode-can mode.AckOnError side.Fragments message payload padding bytes h none s =
 mode-can mode.AckOnError side.Answers message payload padding bytes h none s =
     answer-can mode.AckOnError 9 message payload padding bytes none s
 
+-- what some bytes are, with fewer than eight zero bits after the payload, can be written
 pub can-spell : (params : FragParams) (way : Side) (message : Message) (payload : List Bool)
     (padding : ℕ) (bytes : List ℕ) → IsFragParams params → padding < 8 → IsPayloadOf message payload
     → Spells params way (placed params message) (with_padding message payload padding) bytes
@@ -153,6 +154,8 @@ unfolding kept_length
 kept-least header bitmap other h (inl whole) = omega arith
 kept-least header bitmap other h (inr end) = omega arith
 
+-- of an answer the fewest bits are sent that have each 0 of the bitmap and either fill whole bytes
+-- or are all of it
 pub keeps-least : (header : ℕ) (bitmap : List Bool)
     → IsKeptLength header bitmap (kept_length header bitmap)
 keeps-least header bitmap =

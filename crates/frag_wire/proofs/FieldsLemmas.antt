@@ -63,6 +63,7 @@ number-more bytes from passed number digit bit h e b d =
     e
     (d ∙ ap bool_byte (b ∙ sym (get_or-drop from (octets bytes) passed false)))
 
+-- a number that fits its width, with one bit more, fits a width of one bit more
 pub number-below : (passed number digit : ℕ) (bit : Bool) → number < 2 ^ passed
     → digit ≡ bool_byte bit → number * 2 + digit < 2 ^ (passed + 1)
 number-below passed number digit bit h d =
@@ -100,6 +101,7 @@ number_in-splits bytes from count h =
     in
     rw written (sym (take-append-drop count bits))
 
+-- a number that is read from bits that are all there fits in as many
 pub number_in-below : (bytes : List ℕ) (from count : ℕ) → from + count ≤ 8 * length bytes
     → number_in from count bytes < 2 ^ count
 unfolding number_in

@@ -13,6 +13,7 @@ use Rattle.frag_wire.proofs.FieldsLemmas.{number_in-is, number_in-splits, number
 pub number_in-none : (bytes : List ℕ) → number_in 0 0 bytes ≡ 0
 number_in-none bytes = omega (arith, number_in-below bytes 0 0 (omega arith))
 
+-- what a fragment begins with has the bits of W and those of FCN
 pub length-fragment_head : (w_bits fcn_bits w fcn : ℕ)
     → length (fragment_head w_bits fcn_bits w fcn) ≡ w_bits + fcn_bits
 unfolding fragment_head
@@ -72,6 +73,7 @@ head-rcs bytes w_bits fcn_bits w fcn rcs payload e h =
     number_in-is bytes (fragment_head w_bits fcn_bits w fcn) payload (w_bits + fcn_bits) 32 rcs e
     (length-fragment_head w_bits fcn_bits w fcn) h
 
+-- where W, FCN and an RCS stand in front, the payload is all that comes after them
 pub head-payload : (bytes : List ℕ) (w_bits fcn_bits w fcn rcs : ℕ) (payload : List Bool)
     → octets bytes ≡ fragment_head w_bits fcn_bits w fcn ++ number_bits 32 rcs ++ payload
     → payload ≡ drop (w_bits + fcn_bits + 32) (octets bytes)
@@ -132,6 +134,7 @@ IsAll1-read bytes w_bits fcn_bits w rcs h ew ef er =
           );
     }
 
+-- bytes with room for W and FCN begin with the W and the FCN that are read from them
 pub BeginsWith-read : (bytes : List ℕ) (w_bits fcn_bits w fcn : ℕ)
     → w_bits + fcn_bits ≤ 8 * length bytes → w ≡ number_in 0 w_bits bytes
     → fcn ≡ number_in w_bits fcn_bits bytes → BeginsWith w_bits fcn_bits w fcn bytes
@@ -143,6 +146,7 @@ BeginsWith-read bytes w_bits fcn_bits w fcn h ew ef =
       bits = rw (ew, ef) (head-is bytes w_bits fcn_bits h);
     }
 
+-- an FCN of zeros: the bytes have the form of an ACK REQ, with the W that is read
 pub IsAckReq-read : (bytes : List ℕ) (w_bits fcn_bits w : ℕ) → w_bits + fcn_bits ≤ 8 * length bytes
     → w ≡ number_in 0 w_bits bytes → 0 ≡ number_in w_bits fcn_bits bytes
     → IsAckReq w_bits fcn_bits w [] bytes
@@ -156,6 +160,7 @@ IsAckReq-read bytes w_bits fcn_bits w h ew ef =
           n ++ drop (w_bits + fcn_bits) (octets bytes)) (sym ef) (head-is bytes w_bits fcn_bits h));
     }
 
+-- W and FCN of ones: the bytes have the form of a Sender-Abort
 pub IsSenderAbort-read : (bytes : List ℕ) (w_bits fcn_bits : ℕ)
     → w_bits + fcn_bits ≤ 8 * length bytes → all_ones w_bits ≡ number_in 0 w_bits bytes
     → all_ones fcn_bits ≡ number_in w_bits fcn_bits bytes → IsSenderAbort w_bits fcn_bits [] bytes

@@ -20,6 +20,7 @@ read_err fault = Err fault
 ok-same : (first second : Message) → read_ok first ≡ read_ok second → first ≡ second
 ok-same first second e = cc
 
+-- bytes are at most one message with one payload
 pub spelled-once : (params : FragParams) (way : Side) (bytes : List ℕ) (first second : Message)
     (payload other : List Bool) → Spells params way first payload bytes
     → Spells params way second other bytes → (first ≡ second) × (payload ≡ other)
@@ -33,6 +34,7 @@ spelled-once params way bytes first second payload other h k =
     let same : first ≡ second = ok-same first second (sym a.0 ∙ b.0) in
     (same, rw (a.1, b.1, same))
 
+-- for bytes that are a message there is no cause to refuse them
 pub never-both : (params : FragParams) (way : Side) (bytes : List ℕ) (message : Message)
     (payload : List Bool) (fault : WireFault) → Spells params way message payload bytes
     → IsWireFault params way bytes fault → ⊥
@@ -51,6 +53,7 @@ reading-is params way bytes (Ok message) h =
     sym (reading-spelled params.mode way message (payload_in message (octets bytes)) bytes h).0
 reading-is params way bytes (Err fault) h = sym (reading-refused params.mode way fault bytes h)
 
+-- what was written is read as that message, with its payload and fewer than eight zero bits
 pub read-back : (params : FragParams) (way : Side) (message : Message) (payload : List Bool)
     (bytes : List ℕ) (reading : Result Message WireFault)
     → IsWritten params way message payload bytes → IsReading params way bytes reading

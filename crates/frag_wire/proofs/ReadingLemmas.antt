@@ -66,6 +66,7 @@ reading-met mode.AckOnError side.Fragments bytes h =
 reading-met mode.AckOnError side.Answers bytes h =
     ack_on_error-answers bytes (answer_reading 2 63 9 bytes) (answer-met 2 63 9 bytes (omega arith))
 
+-- bytes that are a message are read as it, and its payload is the one that stands in them
 pub reading-spelled : (m : FragMode) (way : Side) (message : Message) (payload : List Bool)
     (bytes : List ℕ) → SpellsIn m way message payload bytes → (reading_in m way bytes ≡ Ok message)
     × (payload ≡ payload_in message (octets bytes))
@@ -81,6 +82,7 @@ reading-spelled mode.AckOnError side.Fragments message payload bytes h =
 reading-spelled mode.AckOnError side.Answers message payload bytes h =
     answer-spelled 2 63 9 message payload bytes (omega arith) h
 
+-- bytes that are no message, for some cause, are refused for that cause
 pub reading-refused : (m : FragMode) (way : Side) (fault : WireFault) (bytes : List ℕ)
     → IsFaultIn m way bytes fault → reading_in m way bytes ≡ Err fault
 reading-refused mode.NoAck side.Fragments fault bytes h = no_ack-refused fault bytes h
@@ -101,18 +103,21 @@ fault-of : (m : FragMode) (way : Side) (bytes : List ℕ) (read : Result Message
 fault-of m way bytes (Ok message) h = tt
 fault-of m way bytes (Err fault) h = h
 
+-- where a message is read, in a mode that has messages of this side, the bytes are it
 pub read-spells : (m : FragMode) (way : Side) (bytes : List ℕ) (read : Result Message WireFault)
     → HasSide m way → read ≡ reading_in m way bytes
     → IfOk read (λ message. SpellsIn m way message (payload_in message (octets bytes)) bytes)
 read-spells m way bytes read h e =
     spells-of m way bytes read (subst (Meets m way bytes) (sym e) (reading-met m way bytes h))
 
+-- where a fault is read, in a mode that has messages of this side, the bytes are no message for it
 pub read-fault : (m : FragMode) (way : Side) (bytes : List ℕ) (read : Result Message WireFault)
     → HasSide m way → read ≡ reading_in m way bytes
     → IfErr read (λ fault. IsFaultIn m way bytes fault)
 read-fault m way bytes read h e =
     fault-of m way bytes read (subst (Meets m way bytes) (sym e) (reading-met m way bytes h))
 
+-- whatever message and payload the bytes are, the reading gives them
 pub read-spelled : (m : FragMode) (way : Side) (bytes : List ℕ) (read : Result Message WireFault)
     → read ≡ reading_in m way bytes → (message : Message) (payload : List Bool)
     → SpellsIn m way message payload bytes → (read ≡ Ok message)
@@ -123,6 +128,7 @@ read-spelled m way bytes read e message payload h =
     reading-spelled m way message payload bytes h in
     (e ∙ both.0, both.1)
 
+-- whatever the cause for which the bytes are no message, the reading gives it
 pub read-refused : (m : FragMode) (way : Side) (bytes : List ℕ) (read : Result Message WireFault)
     → read ≡ reading_in m way bytes → (fault : WireFault) → IsFaultIn m way bytes fault
     → read ≡ Err fault

@@ -38,6 +38,7 @@ zeros bits = (8 - length bits % 8) % 8
 abbrev pub written : List Bool → List ℕ
 written bits = bytes_of (padded bits)
 
+-- the bytes that are written have the front, the payload, and zero bits up to whole bytes
 pub octets-written : (front payload : List Bool)
     → octets
     (written (front ++ payload)) ≡ front ++ (payload ++ replicate (zeros (front ++ payload)) false)
@@ -46,9 +47,12 @@ octets-written front payload =
     ∙ padded-is (front ++ payload)
     ∙ append_assoc front payload (replicate (zeros (front ++ payload)) false)
 
+-- bits are written in the fewest bytes that hold them
 pub length-written : (bits : List Bool) → length (written bits) ≡ (length bits + 7) / 8
 length-written bits = length-bytes_of (padded bits) ∙ omega (arith, length-padded bits)
 
+-- a W, an FCN that isn't all ones and a payload, as written, have the form of a Regular, whose
+-- payload has the zero bits too
 pub IsRegular-written : (w_bits fcn_bits w fcn : ℕ) (payload : List Bool) → w < 2 ^ w_bits
     → fcn < all_ones fcn_bits → let bits : List Bool =
     fragment_head w_bits fcn_bits w fcn ++ payload in
@@ -63,6 +67,8 @@ IsRegular-written w_bits fcn_bits w fcn payload h k =
           octets-written (fragment_head w_bits fcn_bits w fcn) payload;
     }
 
+-- a W, an FCN of ones, an RCS and a payload, as written, have the form of an All-1, whose payload
+-- has the zero bits too
 pub IsAll1-written : (w_bits fcn_bits w rcs : ℕ) (payload : List Bool) → w < 2 ^ w_bits
     → rcs < 2 ^ 32 → let bits : List Bool =
     fragment_head w_bits fcn_bits w (all_ones fcn_bits) ++ number_bits 32 rcs ++ payload in
@@ -88,6 +94,7 @@ IsAckReq-written w_bits fcn_bits w payload e h =
       bits = octets-written (fragment_head w_bits fcn_bits w 0) payload;
     }
 
+-- W and FCN of ones without a payload, as written, have the form of a Sender-Abort
 pub IsSenderAbort-written : (w_bits fcn_bits : ℕ) (payload : List Bool) → payload ≡ []
     → IsSenderAbort w_bits fcn_bits []
     (written (fragment_head w_bits fcn_bits (all_ones w_bits) (all_ones fcn_bits) ++ payload))
@@ -113,6 +120,7 @@ length-fragment w_bits fcn_bits w fcn payload =
     (length-append (fragment_head w_bits fcn_bits w fcn) payload
     ∙ omega (arith, length-fragment_head w_bits fcn_bits w fcn))
 
+-- how many bytes an All-1 has, with the RCS in 32 bits before its payload
 pub length-all1 : (w_bits fcn_bits w rcs : ℕ) (payload : List Bool)
     → length
     (written

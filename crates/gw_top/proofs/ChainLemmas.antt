@@ -26,6 +26,7 @@ pub publish_line : (w : WorldData) (raw : RawEditionData)
 unfolding step
 publish_line w raw = line-by w (published (last_edition w.chain) raw)
 
+-- after a publication the edition ends the chain, or the chain is as before where it has a finding
 pub publish_chain : (w : WorldData) (raw : RawEditionData)
     → (step w (Publish raw)).0.chain ≡ chain_with w.chain (published (last_edition w.chain) raw)
 unfolding step

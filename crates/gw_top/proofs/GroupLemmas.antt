@@ -118,6 +118,7 @@ even_last : (size : ℕ) (groups : List (Bor (List DeviceLine))) (group : Bor (L
 even_last size [] group all one = (one, tt)
 even_last size (first ∷ groups) group all one = (all.0, even_last size groups group all.1 one)
 
+-- groups of so many devices, or one more, stay so when another such group comes behind them
 pub even_step : (size : ℕ) (groups more : List (Bor (List DeviceLine)))
     (group : Bor (List DeviceLine)) → more ≡ groups ++ group ∷ []
     → AllByRecursion (λ (g : Bor (List DeviceLine)). IsEven size g.now) groups

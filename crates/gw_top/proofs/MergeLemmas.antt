@@ -286,6 +286,7 @@ pub record IsMergedTo (devices : List DeviceLine) (events left : List ScriptEven
   pub owned : AllByRecursion (IsOwned devices) left
   pub lines_left : IsLeft devices before left published own
 
+-- before the first event, where no line is taken yet, the outcomes of all events are left
 pub merged_first : (devices : List DeviceLine) (events : List ScriptEventData)
     (lines published : List Line) (own : ℕ → Option (List Line)) → lines ≡ []
     → AllByRecursion (IsOwned devices) events → IsLeft devices [] events published own

@@ -284,6 +284,7 @@ owned-by devices device (Publish raw) of other = absurd (cc)
 owned-by devices device (Offer role number) of other = of
 owned-by devices device (Allow role number) of other = of
 
+-- each event of a script in its ranges is a publication, or of a device that is declared
 pub all_owned : (devices : List DeviceLine) (events : List ScriptEventData)
     → AreDeclared devices events → AllByRecursion (IsOwned devices) events
 all_owned devices [] all = tt

@@ -39,6 +39,7 @@ unfolding fields_in
 fields_in-udp Up packet = refl
 fields_in-udp Down packet = refl
 
+-- the first fault of UDP in an IPv6 packet is want of memory, or why it is refused with UDP
 pub refused-udp : (packet : List ℕ) (fault : SplitFault) → IsIpv6 packet
     → first_held (udp_refusals packet) ≡ Some fault → (fault ≡ Memory)
     ⊎ (refusal stack.IpUdp packet ≡ Some fault)

@@ -73,6 +73,7 @@ fields_from of direction packet (name ∷ names) h =
     names) first
     ∙ ap (λ (fs : List FieldValue). field_in direction packet name ∷ fs) rest
 
+-- the fields of a packet of a stack without CoAP are those in the bits of its headers alone
 pub fields_in-of_header : (of : Stack) (direction : Direction) (packet : List ℕ) → IsWithoutCoap of
     → map (field_within direction (octets (take (header_size of) packet)))
     (fields_in_packet_order of direction) ≡ fields_in of direction packet
@@ -81,6 +82,7 @@ fields_in-of_header of direction packet h =
     fields_from of direction packet (fields_in_packet_order of direction)
     (fields_in_packet_order-within of direction h)
 
+-- in a packet that isn't shorter than the headers, these have eight bits for each of their bytes
 pub length-header : (of : Stack) (packet : List ℕ) → header_size of ≤ length packet
     → length (octets (take (header_size of) packet)) ≡ 8 * header_size of
 length-header of packet h =

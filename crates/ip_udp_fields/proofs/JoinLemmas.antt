@@ -37,6 +37,7 @@ pub record NoneHeld (of : Stack) (direction : Direction) (fields : List FieldVal
   pub ordered : first_held (order (fields_in_packet_order of direction) fields) ≡ None
   pub right : first_held (value_refusals of fields size) ≡ None
 
+-- where fields are not refused, all are there with their widths, in order, and with right values
 pub join_refusal-none : (of : Stack) (direction : Direction) (fields : List FieldValue) (size : ℕ)
     → join_refusal of direction fields size ≡ None → NoneHeld of direction fields size
 unfolding join_refusal

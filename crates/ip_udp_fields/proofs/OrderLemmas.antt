@@ -45,6 +45,7 @@ abbrev pub are_distinct : List FieldName → Bool
 are_distinct [] = true
 are_distinct (name ∷ names) = not (list_any (same_name name) names) && are_distinct names
 
+-- the field of the name, with the value that `v` has for it
 abbrev pub with_value : (FieldName → List Bool) → FieldName → FieldValue
 with_value v name = record { at = at_name name; value = v name }
 

@@ -18,6 +18,7 @@ abbrev pub is_within : Stack → Direction → FieldName → Bool
 is_within stack direction name =
     nat_le (place_of direction name + bits_of name) (8 * header_size stack)
 
+-- each field of a stack without CoAP ends within the headers, in both directions
 pub fields-within : (stack : Stack) (direction : Direction) → IsWithoutCoap stack
     → list_all (is_within stack direction) (fields_of_stack stack) ≡ true
 fields-within stack.Ip Up h = refl
@@ -26,6 +27,7 @@ fields-within stack.IpUdp Up h = refl
 fields-within stack.IpUdp Down h = refl
 fields-within stack.IpUdpCoap direction h = absurd h
 
+-- each field in packet order ends within the headers too, where the stack has no CoAP
 pub fields_in_packet_order-within : (stack : Stack) (direction : Direction) → IsWithoutCoap stack
     → list_all (is_within stack direction) (fields_in_packet_order stack direction) ≡ true
 fields_in_packet_order-within stack.Ip Up h = refl

@@ -13,6 +13,7 @@ use Rattle.ip_udp_fields.specs.Refusals.{ip_refusals, udp_refusals, refusal}
 use Rattle.rule_model.proofs.FirstLemmas.{first_held-append_some, first_held-append_none}
 use Rattle.rule_model.proofs.FirstLemmas.{first_held-front, first_held-none}
 
+-- the first condition of IPv6 that holds refuses the packet, whatever the stack
 pub refusal-ip : (of : Stack) (packet : List ℕ) (fault : SplitFault)
     → first_held (ip_refusals packet) ≡ Some fault → refusal of packet ≡ Some fault
 unfolding refusal
@@ -22,16 +23,19 @@ refusal-ip stack.IpUdp packet fault e =
 refusal-ip stack.IpUdpCoap packet fault e =
     first_held-append_some (ip_refusals packet) (udp_refusals packet) fault e
 
+-- where no condition of IPv6 holds, the packet isn't refused as one of IPv6
 pub refusal-none_ip : (packet : List ℕ) → first_held (ip_refusals packet) ≡ None
     → refusal stack.Ip packet ≡ None
 unfolding refusal
 refusal-none_ip packet e = e
 
+-- where no condition of IPv6 holds, those of UDP say whether and why a packet with UDP is refused
 pub refusal-udp : (packet : List ℕ) → first_held (ip_refusals packet) ≡ None
     → refusal stack.IpUdp packet ≡ first_held (udp_refusals packet)
 unfolding refusal
 refusal-udp packet e = first_held-append_none (ip_refusals packet) (udp_refusals packet) e
 
+-- where no condition of IPv6 holds, those of UDP say whether and why a packet with CoAP is refused
 pub refusal-coap : (packet : List ℕ) → first_held (ip_refusals packet) ≡ None
     → refusal stack.IpUdpCoap packet ≡ first_held (udp_refusals packet)
 unfolding refusal
@@ -83,6 +87,7 @@ refusal-is_packet stack.Ip packet h e = first_held-is_ipv6 packet e
 refusal-is_packet stack.IpUdp packet h e = first_held-is_udp packet e
 refusal-is_packet stack.IpUdpCoap packet h e = absurd h
 
+-- a packet of the stack has all bytes of its headers
 pub header_size-is_packet : (of : Stack) (packet : List ℕ) → IsPacketOf of packet
     → header_size of ≤ length packet
 header_size-is_packet stack.Ip packet p = p.header

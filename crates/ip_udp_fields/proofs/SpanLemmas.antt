@@ -25,6 +25,7 @@ span direction from to (name ∷ names) =
     (place_of direction (mirrored direction name) == from) && span direction
     (from + bits_of (mirrored direction name)) to names
 
+-- without CoAP the fields in packet order stand one after another, and fill the headers
 pub span-headers : (of : Stack) (direction : Direction) → IsWithoutCoap of
     → span direction 0 (8 * header_size of) (fields_of_stack of) ≡ true
 span-headers stack.Ip Up h = refl
@@ -40,6 +41,7 @@ HaveWidths direction fields names =
     (λ name. length (value_of fields (mirrored direction name)) ≡ bits_of (mirrored direction name))
     names
 
+-- values with the widths of fields that stand one after another reach from the first bit to the end
 pub length-values_in : (direction : Direction) (fields : List FieldValue) (names : List FieldName)
     (from to : ℕ) → span direction from to names ≡ true → HaveWidths direction fields names
     → from + length (values_in direction fields names) ≡ to

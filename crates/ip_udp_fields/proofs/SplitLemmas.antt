@@ -30,6 +30,7 @@ use Rattle.ip_udp_fields.proofs.RefusalLemmas.{refusal-is_packet, header_size-is
 use Rattle.ip_udp_fields.proofs.SpanLemmas.{span-headers, values_in-pieces, mirror, to_packet_order}
 use Rattle.ip_udp_fields.proofs.SumLemmas.{number_in-below}
 
+-- the bits of the packet in which the field of the name stands
 abbrev pub field_bits : Direction → List ℕ → FieldName → List Bool
 field_bits direction packet name = piece (place_of direction name) (bits_of name) packet
 
@@ -101,6 +102,7 @@ length-piece place width packet h =
     length-take-le width (drop place (octets packet))
     (omega (arith, length-drop place (octets packet), length-octets packet))
 
+-- in a packet that has all its headers, each field that ends within them has the bits of its width
 pub lengths : (of : Stack) (direction : Direction) (packet : List ℕ) (names : List FieldName)
     → header_size of ≤ length packet → list_all (is_within of direction) names ≡ true
     → AllByRecursion (λ n. length (field_bits direction packet n) ≡ bits_of n) names
@@ -119,6 +121,7 @@ lengths of direction packet (name ∷ names) l w =
 not_same : (a b : ℕ) → a ≡ b → not (a == b) ≡ false
 not_same a b e = ap not (eq-eqb a b e)
 
+-- where each name has a field, with a value of its width, none is missing or of another width
 pub present : (fields : List FieldValue) (v : FieldName → List Bool) (names : List FieldName)
     → AllByRecursion (λ n. value_in fields n ≡ Some (v n)) names
     → AllByRecursion (λ n. length (v n) ≡ bits_of n) names
@@ -208,6 +211,7 @@ right stack.IpUdp direction packet p =
     (omega (arith, p.header, p.udp_length, number_in-below 352 16 packet))
 right stack.IpUdpCoap direction packet p = absurd p
 
+-- a packet as it is described here is one of a stack without CoAP
 pub without_coap : (of : Stack) (packet : List ℕ) → IsPacketOf of packet → IsWithoutCoap of
 without_coap stack.Ip packet p = tt
 without_coap stack.IpUdp packet p = tt
@@ -310,6 +314,7 @@ one_split of direction packet these those here there f g =
 is_difference : (number front all : ℕ) → number + front ≡ all → number ≡ all - front
 is_difference number front all e = omega arith
 
+-- no condition of IPv6 holds of an IPv6 packet
 pub none-ip : (packet : List ℕ) → IsIpv6 packet → first_held (ip_refusals packet) ≡ None
 none-ip packet p =
     first_held-from_none (ip_refusals packet) (

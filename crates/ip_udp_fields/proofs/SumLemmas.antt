@@ -42,6 +42,7 @@ number_in-below place width packet =
     pow-le-pow_right (omega arith) most in
     omega (arith, bits_value-below (take width (drop place (octets packet))))
 
+-- a packet with UDP has fewer than 2^16 bytes after its IPv6 header
 pub length-below : (packet : List ℕ) → IsUdp packet → length packet < 2 ^ 16 + 40
 length-below packet p = omega (arith, number_in-below 352 16 packet, p.udp_length)
 

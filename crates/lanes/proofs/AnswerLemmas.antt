@@ -154,6 +154,7 @@ aoe-ends (aoe.Gathering tiles kept false) = tt
 aoe-ends (aoe.Finished tiles last true) = λ f. refl
 aoe-ends (aoe.Finished tiles last false) = tt
 
+-- where the answer that is due is read as an ACK with a C of 1, the receiver has finished
 pub due-finished : (m : FragMode) (r : Receiver) (bytes : List ℕ) (w bitmap : ℕ)
     → receiver_mode r ≡ m → receiver_due r ≡ Some bytes
     → reading_in m side.Answers bytes ≡ Ok (form.Ack w true bitmap)

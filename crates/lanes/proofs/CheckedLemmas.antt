@@ -11,12 +11,15 @@ use Rattle.lanes.proofs.SenderKept.{SenderKeeps, sender-step}
 use Rattle.lanes.proofs.OutKept.{OutKeeps, out-step}
 use Rattle.lanes.proofs.JoinsKept.{KeptKeeps, JoinsKeep, kept-begins, kept-step, joins-step}
 
+-- the sender is that of the last session; each All-1 that was sent or is kept, and each assembly
+-- that passed a check, has the RCS of its session
 pub record CheckedKeeps (l : Lane) : Type 0 where
   pub sender : SenderKeeps l
   pub out : OutKeeps l
   pub kept : KeptKeeps l
   pub joins : JoinsKeep l
 
+-- after a possible event, too, the sender is that of the last session, and each RCS its session's
 pub checked-step : IsKept Possible CheckedKeeps
 checked-step time l event p k =
     record {
@@ -26,6 +29,7 @@ checked-step time l event p k =
       joins = joins-step time l event p k.out k.kept k.joins;
     }
 
+-- a lane on which no session has begun has all that, where its parameters are a mode's and in range
 pub checked-begins : (params : LaneParams) → AreLaneParams params → CheckedKeeps (new_lane params)
 unfolding new_lane
 checked-begins params are =
@@ -37,12 +41,15 @@ checked-begins params are =
       joins = tt;
     }
 
+-- after a possible run the sender is that of the last session, and each RCS is its session's
 pub run-checked : (params : LaneParams) (events : List (ℕ × LaneEvent)) → AreLaneParams params
     → ArePossible params events → CheckedKeeps (lane_after params events)
 run-checked params events are possible =
     run-keeps Possible CheckedKeeps checked-step events (new_lane params) possible
     (checked-begins params are)
 
+-- after a possible run each All-1 that was sent carries the RCS of its session, and each assembly
+-- that passed a check has it
 pub checked : Checked
 checked params events are possible =
     let k = run-checked params events are possible in record { sent = k.out; joined = k.joins }
@@ -59,6 +66,8 @@ padded-join l join honest k =
       earlier = k.earlier;
     }
 
+-- where no wrong assembly has its session's RCS, each that passed a check is the padded packet of
+-- its session, which had begun earlier
 pub joins-padded : JoinsPadded
 joins-padded params events are possible honest =
     let l : Lane = lane_after params events in

@@ -403,6 +403,8 @@ last-few : (s : AaSenderData) → last_index s ≤ length (packet_tiles s)
 unfolding last_index
 last-few s = omega arith
 
+-- in ACK-Always a session of which nothing is lost joins its padded packet and ends as delivered,
+-- after at most one round more than it has tiles
 pub clean-ack_always : CleanIn mode.AckAlways
 clean-ack_always params number bits left are e can =
     let row : params.frag ≡ params_of mode.AckAlways = are.row ∙ ap params_of e in

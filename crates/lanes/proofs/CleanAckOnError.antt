@@ -635,6 +635,8 @@ few-rounds params bits is e =
     let some = few-regular params.ends.last (length (all_tiles s)) in
     omega (arith, count, own, some)
 
+-- in ACK-on-Error a session of which nothing is lost joins its padded packet and ends as delivered,
+-- after at most one round more than it has tiles
 pub clean-ack_on_error : CleanIn mode.AckOnError
 unfolding packet_of
 clean-ack_on_error params number bits left are e can =

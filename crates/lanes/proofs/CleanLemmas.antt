@@ -13,6 +13,8 @@ clean-in mode.NoAck = clean-no_ack
 clean-in mode.AckAlways = clean-ack_always
 clean-in mode.AckOnError = clean-ack_on_error
 
+-- where nothing is lost, a session joins its padded packet once and ends as sent or as delivered,
+-- after at most one round more than it has tiles
 pub clean : Clean
 clean params number bits left are can =
     clean-in params.frag.mode params number bits left are refl can

@@ -333,6 +333,8 @@ last-few : (s : NoAckSenderData) → last_index s ≤ length (packet_tiles s)
 unfolding last_index
 last-few s = omega arith
 
+-- in No-ACK a session of which nothing is lost joins its padded packet and ends as sent,
+-- after at most one round more than it has tiles
 pub clean-no_ack : CleanIn mode.NoAck
 clean-no_ack params number bits left are e can =
     let row : params.frag ≡ params_of mode.NoAck = are.row ∙ ap params_of e in

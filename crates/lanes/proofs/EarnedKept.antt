@@ -75,6 +75,8 @@ PhaseIs begins joins label Finished = (label ≡ session_place begins) × IsJoin
 abbrev pub IsLastLabel : List Begun → Option ℕ → ℕ → Type 0
 IsLastLabel begins label rcs = label ≡ session_place begins
 
+-- the receiver is of the lane's mode, and what it keeps is of the last session; where it has
+-- finished, that session was joined
 pub record ReceiverKeeps (l : Lane) : Type 0 where
   pub mode_is : receiver_mode l.reception.receiver ≡ l.params.frag.mode
   pub phase_is : PhaseIs l.begins l.joins l.label (receiver_phase l.reception.receiver)
@@ -219,6 +221,7 @@ told-is : (time : ℕ) (l : Lane) (step : Option Session × Option ReportKind) �
 unfolding lane_told
 told-is time l step k = record { mode_is = k.mode_is; phase_is = k.phase_is; kept_is = k.kept_is }
 
+-- a receiver that gives its answer stays in its phase
 pub answered-phase : (P : ReceiverPhase → Type 0) (r : Receiver) → P (receiver_phase r)
     → P (receiver_phase (receiver_answered r))
 unfolding receiver_answered receiver_phase aa_step.answered aoe_step.answered aoe.receiver_phase
@@ -262,6 +265,7 @@ idled-phase P empty (AckOnError (aoe.Empty abort)) k = k
 idled-phase P empty (AckOnError (aoe.Gathering tiles kept answer)) k = empty
 idled-phase P empty (AckOnError (aoe.Finished tiles last answer)) k = k
 
+-- what holds of a receiver's phase, and of Empty, still holds when the receiver has lingered
 pub lapsed-phase : (P : ReceiverPhase → Type 0) → P Empty → (r : Receiver) → P (receiver_phase r)
     → P (receiver_phase (receiver_lapsed r))
 unfolding receiver_lapsed receiver_phase no_ack_step.lapsed aa_step.lapsed aoe_step.lapsed
@@ -311,6 +315,8 @@ ticked-is l k =
           l.reception k.kept_is;
     }
 
+-- after a fresh event, too, the receiver keeps what is of the last session alone, and where it has
+-- finished, that session was joined
 pub receiver-step : (time : ℕ) (l : Lane) (event : LaneEvent) → IsFresh time l event
     → ReceiverKeeps l → ReceiverKeeps (lane_step time l event)
 unfolding lane_step lane_begins
@@ -340,6 +346,7 @@ IsRightAnswer params joins m =
     (w bitmap : ℕ) → reading_in params.frag.mode side.Answers m.bytes ≡ Ok (form.Ack w true bitmap)
     → IsJoined joins m.label
 
+-- each ACK with a C of 1 that was given belongs to a session that was joined
 abbrev pub BackKeeps : Lane → Type 0
 BackKeeps l = AllByRecursion (IsRightAnswer l.params l.joins) l.back
 
@@ -397,6 +404,8 @@ took-back time l m (Ok message) k =
     (receiver_previewed message (payload_in message (octets m.bytes)) l.reception.receiver))
     l.back k
 
+-- after one more event, too, each ACK with a C of 1 belongs to a joined session, where that of a
+-- receiver that has finished was joined
 pub back-step : (time : ℕ) (l : Lane) (event : LaneEvent) → ReceiverKeeps l → BackKeeps l
     → BackKeeps (lane_step time l event)
 unfolding lane_step lane_begins lane_told
@@ -415,6 +424,7 @@ back-step time l Abort r k = k
 
 -- The reports.
 
+-- each session that is reported delivered was joined before it was reported
 abbrev pub ReportsKeep : Lane → Type 0
 ReportsKeep l = AllByRecursion (IsEarned l.joins) l.reports
 
@@ -520,6 +530,8 @@ acked-earned time l m p f b e =
     (fresh-label l m (reading_in l.params.frag.mode side.Answers m.bytes) ack.w ack.bitmap
     ack.read f) joined)
 
+-- after a fresh and possible event, too, each session reported delivered was joined earlier, where
+-- each ACK with a C of 1 belongs to a joined one
 pub reports-step : (time : ℕ) (l : Lane) (event : LaneEvent) → Possible time l event
     → IsFresh time l event → BackKeeps l → ReportsKeep l → ReportsKeep (lane_step time l event)
 unfolding lane_step lane_begins lane_told

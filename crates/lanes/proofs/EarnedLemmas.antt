@@ -23,11 +23,14 @@ use Rattle.lanes.proofs.JoinsKept.{kept-begins}
 use Rattle.lanes.proofs.ListLemmas.{all-weaken, all-among}
 use Rattle.lanes.proofs.RunLemmas.{IsKept, run-keeps, along-both}
 
+-- the receiver keeps what is of the last session; an ACK with a C of 1, and a report of delivery,
+-- is of one that was joined
 pub record EarnedKeeps (l : Lane) : Type 0 where
   pub receiver : ReceiverKeeps l
   pub back : BackKeeps l
   pub reports : ReportsKeep l
 
+-- after a fresh and possible event, too, ACKs with a C of 1 and deliveries are of joined sessions
 pub earned-step : IsKept (λ time l event. Possible time l event × IsFresh time l event) EarnedKeeps
 earned-step time l event p k =
     record {
@@ -42,6 +45,7 @@ new-mode mode.NoAck = refl
 new-mode mode.AckAlways = refl
 new-mode mode.AckOnError = refl
 
+-- a new receiver is empty, in each mode
 pub new-phase : (P : ReceiverPhase → Type 0) (m : FragMode) → P Empty
     → P (receiver_phase (new_receiver m))
 unfolding new_receiver receiver_phase aoe.receiver_phase aoe.empty_receiver
@@ -49,6 +53,7 @@ new-phase P mode.NoAck k = k
 new-phase P mode.AckAlways k = k
 new-phase P mode.AckOnError k = k
 
+-- on a lane on which no session has begun this holds of the receiver, the answers and the reports
 pub earned-begins : (params : LaneParams) → EarnedKeeps (new_lane params)
 unfolding new_lane
 earned-begins params =
@@ -70,6 +75,7 @@ run-earned params events possible fresh =
     events (new_lane params)
     (along-both Possible IsFresh events (new_lane params) possible fresh) (earned-begins params)
 
+-- in a fresh run each session that is reported delivered was joined earlier
 pub earned : Earned
 earned params events possible fresh = (run-earned params events possible fresh).reports
 
@@ -92,6 +98,8 @@ arrives l report honest joins earned e =
       earlier = k.earlier;
     }
 
+-- in a fresh run where no wrong assembly has a session's RCS, what was joined earlier is the padded
+-- packet of the session that is reported delivered
 pub arrived : Arrived
 arrived params events are possible fresh honest =
     let l : Lane = lane_after params events in

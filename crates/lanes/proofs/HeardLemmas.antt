@@ -228,6 +228,7 @@ done-ack (form.All1 w rcs from) h = absurd h
 done-ack (form.AckReq w) h = absurd h
 done-ack form.SenderAbort h = absurd h
 
+-- where a session is reported delivered at an answer, that is an ACK with a C of 1
 pub heard_by-tells : (ticks : TimerTicks) (session : Option Session)
     (reading : Result Message WireFault) → (heard_by ticks session reading).1 ≡ Some Delivered
     → IsAckOfAll reading
@@ -237,6 +238,7 @@ heard_by-tells ticks (Some session) (Err fault) e = absurd cc
 heard_by-tells ticks (Some session) (Ok message) e =
     done-ack message (heard-tells message session.sender e)
 
+-- a session that is given up is not reported delivered
 pub aborted_by-tells : (ticks : TimerTicks) (session : Option Session)
     → (aborted_by ticks session).1 ≡ Some Delivered → ⊥
 unfolding aborted_by session_aborted
@@ -260,6 +262,7 @@ ticked_if-tells ticks session true e =
     fired-tells ticks (record session { left = None }) (sender_phase session.sender) e
 ticked_if-tells ticks session false e = cc
 
+-- at a tick of the sender's end no session is reported delivered
 pub ticked_by-tells : (ticks : TimerTicks) (session : Option Session)
     → (ticked_by ticks session).1 ≡ Some Delivered → ⊥
 unfolding ticked_by session_ticked
@@ -276,6 +279,7 @@ sent_kind-tells phase.Waiting after e = cc
 sent_kind-tells phase.Closing after e = cc
 sent_kind-tells phase.Quiet after e = cc
 
+-- a session that gives a message is not reported delivered by that
 pub kind_sent-tells : (session : Session) → kind_sent session ≡ Some Delivered → ⊥
 unfolding kind_sent
 kind_sent-tells session e =

@@ -59,6 +59,7 @@ Ascends [] = Unit {0}
 Ascends (begun ∷ begins) = AllByRecursion (λ later. begun.place < later.place) begins
     × Ascends begins
 
+-- the places of the sessions that began ascend, and the bits of each may go as a session
 abbrev pub BeginsKeep : Lane → Type 0
 BeginsKeep l = Ascends l.begins × AllByRecursion (λ begun. CanBegin begun.bits) l.begins
 
@@ -132,6 +133,7 @@ unfolding lane_answered
 answered-begins l None k = k
 answered-begins l (Some bytes) k = k
 
+-- after a possible event, too, the places of the sessions ascend, and their bits may go as such
 pub begins-step : (time : ℕ) (l : Lane) (event : LaneEvent) → Possible time l event → BeginsKeep l
     → BeginsKeep (lane_step time l event)
 unfolding lane_step lane_begins lane_told
@@ -159,6 +161,8 @@ pub record IsRunMsg (params : LaneParams) (begins : List Begun) (m : Msg) : Type
       → reading_in params.frag.mode side.Fragments m.bytes ≡ Ok message
       → HasRun (session_tiles params begun.bits) message (payload_in message (octets m.bytes))
 
+-- each message that was sent is of a session that began; in ACK-on-Error each Regular has a run of
+-- its tiles
 abbrev pub RunsKeep : Lane → Type 0
 RunsKeep l = AllByRecursion (IsRunMsg l.params l.begins) l.out
 
@@ -278,6 +282,8 @@ unfolding lane_answered
 answered-runs l None k = k
 answered-runs l (Some bytes) k = k
 
+-- after a possible event, too, each Regular of ACK-on-Error has a run of the tiles of its session,
+-- where the sender is that of the last session
 pub runs-step : (time : ℕ) (l : Lane) (event : LaneEvent) → Possible time l event → SenderKeeps l
     → RunsKeep l → RunsKeep (lane_step time l event)
 unfolding lane_step lane_begins lane_told
@@ -296,6 +302,8 @@ runs-step time l Abort p s k = k
 
 -- The receiver.
 
+-- a receiver of ACK-on-Error that gathers holds tiles of the last session alone; where none has
+-- begun, the receiver is empty
 abbrev pub HeldKeeps : Lane → Type 0
 HeldKeeps l = HoldsOf l.params (last_item l.begins) l.reception.receiver
 
@@ -544,6 +552,8 @@ outlasts-of params (Some last) =
           lapsed-holds (session_tiles params last.bits);
     }
 
+-- after a fresh and possible event, too, what a receiver of ACK-on-Error holds while it gathers is
+-- of the last session, where each Regular that was sent has a run of its session's tiles
 pub held-step : (time : ℕ) (l : Lane) (event : LaneEvent) → Possible time l event
     → IsFresh time l event → AreLaneParams l.params → BeginsKeep l → ReceiverKeeps l → RunsKeep l
     → HeldKeeps l → HeldKeeps (lane_step time l event)

@@ -63,6 +63,8 @@ tiles-begin params are =
       held = new-held params;
     }
 
+-- in a fresh run the tiles that a receiver of ACK-on-Error holds while it gathers are tiles of the
+-- session that began last, each at the place with its number
 pub holds-tiles : HoldsTiles
 holds-tiles params events are possible fresh =
     let l : Lane = lane_after params events in

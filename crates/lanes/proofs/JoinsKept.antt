@@ -40,6 +40,8 @@ use Rattle.lanes.proofs.TickedLemmas.{OutlastsTimers, ticked-keeps}
 abbrev pub KeptKeeps : Lane → Type 0
 KeptKeeps l = KeptIs (IsRcsOf l.params l.begins l.kept_label) l.reception.receiver
 
+-- each check that passed is one of those made; its session had begun earlier, and the assembly has
+-- its RCS
 abbrev pub JoinsKeep : Lane → Type 0
 JoinsKeep l = AllByRecursion (IsRightJoin l.params l.begins l.checks) l.joins
 
@@ -85,6 +87,7 @@ new-kept P mode.NoAck = tt
 new-kept P mode.AckAlways = tt
 new-kept P mode.AckOnError = tt
 
+-- a new receiver keeps no All-1, so all that is asked of the kept one's RCS holds
 pub kept-begins : (P : ℕ → Type 0) (m : FragMode) → KeptIs P (new_receiver m)
 kept-begins P m = new-kept P m
 
@@ -128,6 +131,8 @@ answer-kept l (Some bytes) k =
 outlasts : (P : ℕ → Type 0) → OutlastsTimers (KeptIs P)
 outlasts P = record { idles = idled-kept P; lapses = lapsed-kept P }
 
+-- after a possible event, too, the All-1 that is kept carries the RCS of its session, where each
+-- that was sent does
 pub kept-step : (time : ℕ) (l : Lane) (event : LaneEvent) → Possible time l event → OutKeeps l
     → KeptKeeps l → KeptKeeps (lane_step time l event)
 unfolding lane_step lane_begins lane_told
@@ -166,6 +171,7 @@ join-begun params begins more checks join k =
           k.earlier;
     }
 
+-- where a check is made over an assembly, it is noted with its time and its session
 pub among-made : (time : ℕ) (session : Option ℕ) (made : Option (List Bool)) (assembly : List Bool)
     → made ≡ Some assembly
     → Among (record { time = time; assembly = assembly; session = session })
@@ -257,6 +263,8 @@ unfolding lane_answered
 answer-joins l None k = k
 answer-joins l (Some bytes) k = k
 
+-- after a possible event, too, each assembly that passed has the RCS of its session, where each
+-- All-1 that was sent or is kept carries its session's
 pub joins-step : (time : ℕ) (l : Lane) (event : LaneEvent) → Possible time l event → OutKeeps l
     → KeptKeeps l → JoinsKeep l → JoinsKeep (lane_step time l event)
 unfolding lane_step lane_begins lane_told

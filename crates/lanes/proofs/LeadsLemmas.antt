@@ -331,6 +331,8 @@ aoe-leads form.ReceiverAbort payload r = aoe_other-leads r
 
 -- Every receiver.
 
+-- a receiver that gathers did so before, or the message was no remnant; one that has finished had
+-- finished before, or the message was no remnant and an assembly passed the check
 pub taken-comes : (message : Message) (payload : List Bool) (r : Receiver) → let t =
     receiver_taken message payload r in
     Comes (receiver_phase r) (receiver_previewed message payload r) t.1 (receiver_phase t.0)

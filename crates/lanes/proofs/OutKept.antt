@@ -21,6 +21,7 @@ use Rattle.lanes.proofs.ListLemmas.{all-weaken, all-append, among-more, among-la
 use Rattle.lanes.proofs.SenderKept.{IsLast, SenderIs, SenderKeeps, begins-last}
 use Rattle.lanes.proofs.WireLemmas.{due-right}
 
+-- each All-1 that was sent carries the RCS of its session
 abbrev pub OutKeeps : Lane → Type 0
 OutKeeps l = AllByRecursion (IsRightMsg l.params l.begins) l.out
 
@@ -98,6 +99,8 @@ unfolding lane_answered
 answered-right l None k = k
 answered-right l (Some bytes) k = k
 
+-- after a possible event, too, each All-1 that was sent carries the RCS of its session, where the
+-- sender is that of the last one
 pub out-step : (time : ℕ) (l : Lane) (event : LaneEvent) → Possible time l event → SenderKeeps l
     → OutKeeps l → OutKeeps (lane_step time l event)
 unfolding lane_step lane_begins lane_told

@@ -18,11 +18,13 @@ use Rattle.tiles_bitmap.specs.Padding.{padded_packet, fill, all1_head, last_of}
 use Rattle.tiles_bitmap.specs.Tiles.{tiles}
 use Rattle.tiles_bitmap.proofs.TilesLemmas.{tiles-join}
 
+-- an RCS has at most 32 bits
 pub rcs-below : (bits : List Bool) → rcs_of bits < 2 ^ 32
 unfolding rcs_of
 rcs-below bits = let e =
     check_of-bytes (bytes_of (padded bits)) (AreBytes-bytes_of (padded bits)) in omega arith
 
+-- parameters that some mode has are those of the mode that they name
 pub params-are : (m : FragMode) (params : FragParams) → params ≡ params_of m → IsFragParams params
 params-are mode.NoAck params row = subst IsFragParams (sym row) refl
 params-are mode.AckAlways params row = subst IsFragParams (sym row) refl
@@ -64,6 +66,7 @@ fill-few : (count : ℕ) → length (fill count) ≤ 7
 unfolding fill
 fill-few count = omega (arith, length-replicate ((8 - count % 8) % 8) false)
 
+-- a receiver has room for a packet that is not too long for a session, with its padding
 pub padded-bound : (params : FragParams) (mtu : ℕ) (bits : List Bool)
     → length bits ≤ max_session_bits → length (padded_packet params mtu bits) ≤ reassembly_bits
 unfolding padded_packet

@@ -43,6 +43,7 @@ unfolding lane_answered
 answered-params l None = refl
 answered-params l (Some bytes) = refl
 
+-- no event changes the parameters of a lane
 pub params-step : (time : ℕ) (l : Lane) (event : LaneEvent)
     → (lane_step time l event).params ≡ l.params
 unfolding lane_step lane_begins lane_told

@@ -36,6 +36,8 @@ LastIs P (aoe.Gathering tiles None answer) = Unit {0}
 LastIs P (aoe.Gathering tiles (Some last) answer) = P last.rcs
 LastIs P (aoe.Finished tiles last answer) = P last.rcs
 
+-- this holds of the RCS of the All-1 that a receiver of ACK-on-Error keeps; of another receiver
+-- nothing is asked
 abbrev pub KeptIs : (ℕ → Type 0) → Receiver → Type 0
 KeptIs P (NoAck r) = Unit {0}
 KeptIs P (AckAlways r) = Unit {0}
@@ -147,6 +149,8 @@ aoe-passed R label kept message payload r assembly came k found =
 
 -- Every receiver.
 
+-- an assembly that passes is the one checked, and of its RCS holds what holds of that of the All-1
+-- whose session is noted: the message's own, or the one that is kept
 pub passed-is : (R : Option ℕ → ℕ → Type 0) (label kept : Option ℕ) (message : Message)
     (payload : List Bool) (r : Receiver) (assembly : List Bool) → CameIs (R label) message
     → KeptIs (R kept) r → receiver_previewed message payload r ≡ Some assembly
@@ -229,6 +233,8 @@ aoe-kept R label kept (form.AckReq w) payload r came k = ack_req-kept R kept r k
 aoe-kept R label kept form.SenderAbort payload r came k = abort-kept (R kept) r
 aoe-kept R label kept form.ReceiverAbort payload r came k = other-kept (R kept) r k
 
+-- what holds of the RCS of the All-1 that comes, and of the one that is kept, each with its
+-- session, holds of the one that is kept after the message
 pub taken-kept : (R : Option ℕ → ℕ → Type 0) (label kept : Option ℕ) (message : Message)
     (payload : List Bool) (r : Receiver) → CameIs (R label) message → KeptIs (R kept) r
     → KeptIs
@@ -263,18 +269,21 @@ lapsed-last P (aoe.Gathering tiles None answer) k = k
 lapsed-last P (aoe.Gathering tiles (Some last) answer) k = k
 lapsed-last P (aoe.Finished tiles last answer) k = tt
 
+-- what holds of the RCS of the All-1 that is kept still holds when the answer was given
 pub answered-kept : (P : ℕ → Type 0) (r : Receiver) → KeptIs P r → KeptIs P (receiver_answered r)
 unfolding receiver_answered
 answered-kept P (NoAck r) k = k
 answered-kept P (AckAlways r) k = k
 answered-kept P (AckOnError r) k = answered-last P r k
 
+-- what holds of the RCS of the All-1 that is kept still holds when the inactivity timer was due
 pub idled-kept : (P : ℕ → Type 0) (r : Receiver) → KeptIs P r → KeptIs P (receiver_idled r)
 unfolding receiver_idled
 idled-kept P (NoAck r) k = k
 idled-kept P (AckAlways r) k = k
 idled-kept P (AckOnError r) k = idled-last P r k
 
+-- what holds of the RCS of the All-1 that is kept still holds when the receiver has lingered
 pub lapsed-kept : (P : ℕ → Type 0) (r : Receiver) → KeptIs P r → KeptIs P (receiver_lapsed r)
 unfolding receiver_lapsed
 lapsed-kept P (NoAck r) k = k

@@ -10,6 +10,7 @@ abbrev pub IsKept : (ℕ → Lane → LaneEvent → Type 0) → (Lane → Type 0
 IsKept Q P = (time : ℕ) (l : Lane) (event : LaneEvent) → Q time l event → P l
     → P (lane_step time l event)
 
+-- what each event that is so keeps, a run of such events keeps
 pub run-keeps : (Q : ℕ → Lane → LaneEvent → Type 0) (P : Lane → Type 0) → IsKept Q P
     → (events : List (ℕ × LaneEvent)) (l : Lane) → AlongRun Q l events → P l → P (lane_run l events)
 run-keeps Q P kept [] l along p = p
@@ -17,6 +18,7 @@ run-keeps Q P kept (event ∷ events) l along p =
     run-keeps Q P kept events (lane_step event.0 l event.1) along.1
     (kept event.0 l event.1 along.0 p)
 
+-- where the events of a run are each the one and each the other, each is both
 pub along-both : (Q R : ℕ → Lane → LaneEvent → Type 0) (events : List (ℕ × LaneEvent)) (l : Lane)
     → AlongRun Q l events → AlongRun R l events
     → AlongRun (λ time l event. Q time l event × R time l event) l events
@@ -30,6 +32,7 @@ pub run-append : (events more : List (ℕ × LaneEvent)) (l : Lane)
 run-append [] more l = refl
 run-append (event ∷ events) more l = run-append events more (lane_step event.0 l event.1)
 
+-- where the events of a run, and of another one after it, are so, those of both together are
 pub along-append : (Q : ℕ → Lane → LaneEvent → Type 0) (events more : List (ℕ × LaneEvent))
     (l : Lane) → AlongRun Q l events → AlongRun Q (lane_run l events) more
     → AlongRun Q l (events ++ more)

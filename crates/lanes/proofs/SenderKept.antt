@@ -31,10 +31,12 @@ pub record IsLast (params : LaneParams) (begins : List Begun) (sender : Sender) 
   pub is_last : last_item begins ≡ Some begun
   pub of_it : IsSenderOf params begun.bits sender
 
+-- where a session is under way, its sender is that of the last session that began
 abbrev pub SenderIs : LaneParams → List Begun → Option Session → Type 0
 SenderIs params begins None = Unit {0}
 SenderIs params begins (Some session) = IsLast params begins session.sender
 
+-- the parameters are those of a mode and in range, and the sender is that of the last session
 abbrev pub SenderKeeps : Lane → Type 0
 SenderKeeps l = AreLaneParams l.params × SenderIs l.params l.begins l.sender
 
@@ -147,6 +149,7 @@ unfolding lane_answered
 answered-is l None k = k
 answered-is l (Some bytes) k = k
 
+-- after a possible event, too, the sender is that of the last session that began
 pub sender-step : (time : ℕ) (l : Lane) (event : LaneEvent) → Possible time l event → SenderKeeps l
     → SenderKeeps (lane_step time l event)
 unfolding lane_step lane_begins lane_told

@@ -25,6 +25,7 @@ use Rattle.sessions.specs.declared.senders.Sender.TheVariants.{NoAck, AckAlways,
 use Rattle.lanes.specs.Events.{CanBegin}
 use Rattle.lanes.specs.Lane.{LaneParams, AreLaneParams}
 
+-- what holds of every sender of its mode: its parameters, the bits of its packet, where it stands
 abbrev pub IsSender : Sender → Type 0
 IsSender (NoAck s) = no_ack.IsNoAckSender s
 IsSender (AckAlways s) = aa.IsAaSender s
@@ -78,6 +79,7 @@ begun-in mode.AckOnError params bits row are can =
           are.in_range.mtu can.least can.most;
     }
 
+-- a session whose bits may go as one begins with a sender of them, with the lane's parameters
 pub begun-is : (params : LaneParams) (bits : List Bool) → AreLaneParams params → CanBegin bits
     → IsSenderOf params bits
     (sender_begun params.frag.mode params.frag params.ends.mtu params.ends.last bits)
@@ -123,6 +125,7 @@ aoe-is params bits s other same sound is =
       sound = sound;
     }
 
+-- a sender that gave a message stays the sender of its packet, with its parameters
 pub sent-is : (params : LaneParams) (bits : List Bool) (sender : Sender)
     → IsSenderOf params bits sender → IsSenderOf params bits (sender_sent sender)
 unfolding sender_sent
@@ -134,6 +137,7 @@ sent-is params bits (AckAlways s) is =
 sent-is params bits (AckOnError s) is =
     aoe-is params bits s _ (aoe_session.keeps-session s).sends (aoe_law.sent-keeps s is.sound) is
 
+-- a sender that heard a message stays the sender of its packet, with its parameters
 pub heard-is : (params : LaneParams) (bits : List Bool) (message : Message) (sender : Sender)
     → IsSenderOf params bits sender → IsSenderOf params bits (sender_heard message sender).0
 unfolding sender_heard
@@ -145,6 +149,7 @@ heard-is params bits message (AckOnError s) is =
     aoe-is params bits s _ ((aoe_session.keeps-session s).hears message)
     (aoe_law.heard-keeps message s is.sound) is
 
+-- a sender whose retransmission timer was due stays the sender of its packet, with its parameters
 pub retried-is : (params : LaneParams) (bits : List Bool) (sender : Sender)
     → IsSenderOf params bits sender → IsSenderOf params bits (sender_retried sender).0
 unfolding sender_retried
@@ -156,6 +161,7 @@ retried-is params bits (AckOnError s) is =
     aoe-is params bits s _ (aoe_session.keeps-session s).retries (aoe_law.retried-keeps s is.sound)
     is
 
+-- a sender whose session is given up stays the sender of its packet, with its parameters
 pub aborted-is : (params : LaneParams) (bits : List Bool) (sender : Sender)
     → IsSenderOf params bits sender → IsSenderOf params bits (sender_aborted sender).0
 unfolding sender_aborted

@@ -28,6 +28,7 @@ ticked_if-keeps P outlasts reception true p =
     fired-keeps P outlasts (receiver_phase reception.receiver) reception.receiver p
 ticked_if-keeps P outlasts reception false p = p
 
+-- what outlasts giving up and lingering still holds after a tick of the receiver's end
 pub ticked-keeps : (P : Receiver → Type 0) → OutlastsTimers P → (reception : Reception)
     → P reception.receiver → P (reception_ticked reception).receiver
 unfolding reception_ticked

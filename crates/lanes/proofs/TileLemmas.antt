@@ -191,6 +191,8 @@ pub record IsWhole (s : AoeSenderData) (number more : ℕ) : Type 0 where
   pub parts : payload_tiles (regular s number more).1 ≡ take (1 + more)
       (drop number (regular_tiles s))
 
+-- a Regular with this tile and so many more, all of which go in Regulars, has exactly those tiles,
+-- and its W and FCN lead back to the number of the first
 pub regular-whole : (s : AoeSenderData) (number more : ℕ) → IsAoeSender s
     → number + more < regular_count s → IsWhole s number more
 unfolding regular regular_tiles

@@ -61,6 +61,8 @@ session-waits : (params : LaneParams) (begins : List Begun) (session : Option Se
 session-waits params begins None k = tt
 session-waits params begins (Some session) k = λ e. sender-waits session.sender k.of_it.sound e
 
+-- a sender that waits for an answer has nothing to send, and has made one request to eight since
+-- an answer counted
 pub waits-well : WaitsWell
 waits-well params events are possible =
     let l : Lane = lane_after params events in

@@ -32,6 +32,7 @@ pub record IsMapped {A B : Type 0} (f : A → B) (o : Option A) (b : B) : Type 0
 some-same : {A : Type 0} (x y : A) → Some x ≡ Some y → x ≡ y
 some-same x y e = cc
 
+-- where a mapped option has something, it is the image of what the option has
 pub is-mapped : {A B : Type 0} (f : A → B) (o : Option A) (b : B) → option_map f o ≡ Some b
     → IsMapped f o b
 is-mapped f None b e = absurd cc
@@ -77,6 +78,7 @@ sender-reads (AckOnError s) bytes is e w rcs from read =
     aoe_law.all1-checks s bytes w rcs from _ is e
     (read-spelt s.params bytes (form.All1 w rcs from) read)
 
+-- where what is due is read as an All-1, it carries the RCS of the sender's padded packet
 pub due-right : (params : LaneParams) (bits : List Bool) (sender : Sender) (bytes : List ℕ)
     → IsSenderOf params bits sender → sender_due sender ≡ Some bytes → (w rcs from : ℕ)
     → reading_in params.frag.mode side.Fragments bytes ≡ Ok (form.All1 w rcs from)

@@ -45,10 +45,12 @@ flat-append f (x ∷ xs) ys =
     ap (λ zs. f x ++ zs) (flat-append f xs ys) ∙ sym
     (append_assoc (f x) (flat_map f xs) (flat_map f ys))
 
+-- the values for the numbers below n + 1 are those below n, and behind them that of n
 pub one_more : {B : Type 0} (f : ℕ → B) (n : ℕ) → map f (below (n + 1)) ≡ map f (below n)
     ++ f n ∷ []
 one_more f n = rw (next-number n) (map-append f (below n) (n ∷ []))
 
+-- the lists for the numbers below n + 1, joined, are those below n, and behind them that of n
 pub flat_more : {B : Type 0} (f : ℕ → List B) (n : ℕ) → flat_map f (below (n + 1)) ≡ flat_map f
     (below n) ++ f n
 flat_more f n =
@@ -73,6 +75,7 @@ length_payload draw n = length-map (λ i. (draw + i) % 256) (below n) ∙ length
 
 -- ---- devices
 
+-- the devices with the numbers below n are n
 pub counted : (n : ℕ) → length (map load_device (below n)) ≡ n
 counted n = length-map load_device (below n) ∙ length-below n
 
@@ -105,6 +108,7 @@ or-first : (a b : Bool) → a ≡ true → a || b ≡ true
 or-first true b h = refl
 or-first false b h = absurd (cc)
 
+-- where the devices with the numbers below n are declared, no number from n on is
 pub fresh : (n k : ℕ) → n ≤ k → is_declared (map load_device (below n)) k ≡ false
 fresh zero k h = refl
 fresh (suc n) k h =
@@ -120,6 +124,7 @@ last-or-before : (n k : ℕ) (same : Bool) → (n == k) ≡ same → k < suc n
 last-or-before n k true s h before = or-true _ _ s
 last-or-before n k false s h before = or-first _ _ (before (different n k s h))
 
+-- where the devices with the numbers below n are declared, each number below n is
 pub known : (n k : ℕ) → k < n → is_declared (map load_device (below n)) k ≡ true
 known zero k h = absurd (omega (arith, h))
 known (suc n) k h = declared-more n k ∙ last-or-before n k (n == k) refl h
@@ -141,6 +146,7 @@ pub frames_none : (device number count : ℕ) → frames_up device number (count
 unfolding frames_up
 frames_none device number count = let e : count - count ≡ 0 = omega arith in rw e refl
 
+-- the place of the draw that a device takes in a round is one of the places of three rounds
 pub within : (round devices device : ℕ) → round < 3 → device < devices
     → round * devices + device < 3 * devices
 within zero devices device h d = omega (arith, d)
@@ -150,11 +156,13 @@ within (suc (suc (suc n))) devices device h d = absurd (omega (arith, h))
 
 -- ---- one more in a loop
 
+-- a list with one more item at its end is longer by one
 pub length_pushed : {A : Type 0} (list more : List A) (x : A) (k : ℕ) → more ≡ list ++ x ∷ []
     → length list ≡ k → length more ≡ k + 1
 length_pushed list more x k pushed before = ap length pushed ∙ length-append list (x ∷ [])
     ∙ rw before refl
 
+-- with the next draw behind them, the draws made and those still to make are the same as before
 pub draws_pushed : (list more : List ℕ) (count k start old next draw : ℕ) → k < count → list
     ++ draws (count - k) old ≡ draws count start
     → next ≡ next_state old → draw ≡ draw_of next → more ≡ list ++ draw ∷ [] → more ++ draws
@@ -164,6 +172,7 @@ draws_pushed list more count k start old next draw h all n d pushed =
     (draws (count - (k + 1)) (next_state old))
     ∙ ap (λ ds. list ++ ds) (sym (draws_step k count old h)) ∙ all)
 
+-- where no draw is left to make, all are made
 pub draws_all : (list : List ℕ) (count k start state : ℕ) → count ≤ k → list ++ draws
     (count - k) state ≡ draws count start → list ≡ draws count start
 unfolding draws
@@ -171,10 +180,12 @@ draws_all list count k start state h all =
     let e : count - k ≡ 0 = omega (arith, h) in
     sym (append-nil list) ∙ subst (λ n. list ++ draws n state ≡ draws count start) e all
 
+-- a payload of no bytes adds nothing to what stands before it
 pub payload_none : (front : List ℕ) (draw : ℕ) → front ≡ front ++ payload draw 0
 unfolding payload
 payload_none front draw = sym (append-nil front)
 
+-- with its next byte, which counts up from the draw, the payload is that of one byte more
 pub payload_pushed : (front items more : List ℕ) (draw i byte : ℕ) → items ≡ front ++ payload draw i
     → more ≡ items ++ byte ∷ [] → byte ≡ (draw + i) % 256
     → more ≡ front ++ payload draw (i + 1)
@@ -182,6 +193,8 @@ payload_pushed front items more draw i byte before pushed is =
     rw (payload_more draw i, pushed, before, is)
     (append_assoc front (payload draw i) (((draw + i) % 256) ∷ []))
 
+-- with the slot and the arrival of the next frame behind them, the events told
+-- and those of the frames still to go up are the same as before
 pub frames_pushed : (device number k count : ℕ) (start now mid end : List ScriptEventData)
     → k < count
     → now ++ frames_up device (number + k) (count - k) ≡ start ++ frames_up device number count
@@ -197,6 +210,7 @@ frames_pushed device number k count start now mid end h all first second =
     (slot ∷ []) (deliver ∷ left)
     ∙ ap (λ events. now ++ events) (sym (frames_step device number k count h)) ∙ all)
 
+-- with two more, the events are still two for each frame beside those at the start
 pub length_two : (now mid end : List ScriptEventData) (x y : ScriptEventData) (n k : ℕ) → mid ≡ now
     ++ x ∷ [] → end ≡ mid ++ y ∷ [] → length now ≡ n + 2 * k
     → length end ≡ n + 2 * (k + 1)
@@ -205,6 +219,7 @@ length_two now mid end x y n k first second before =
     let b = length_pushed mid end y (n + 2 * k + 1) second a in
     b ∙ omega arith
 
+-- where no frame is left to go up, the events of all are told, behind those at the start
 pub frames_all : (device number k count : ℕ) (start now : List ScriptEventData) → count ≤ k
     → now ++ frames_up device (number + k) (count - k) ≡ start ++ frames_up device number count
     → now ≡ start ++ frames_up device number count
@@ -248,6 +263,7 @@ bytes-payload draw n = bytes-mapped draw (below n)
 joined : (front back : List ℕ) → AreBytes front → AreBytes back → AreBytes (front ++ back)
 joined front back first second = all-append (λ byte. byte < 256) front back first second
 
+-- each number in a packet of a load is a byte
 pub packet_bytes : (device draw : ℕ) → AreBytes (load_packet device draw)
 unfolding load_packet
 packet_bytes device draw =
@@ -272,6 +288,7 @@ size-least : (draw : ℕ) → 40 ≤ packet_size draw
 unfolding packet_size
 size-least draw = omega arith
 
+-- a packet of a load has the size that its draw gives, 40 to 200 bytes
 pub packet_length : (device draw : ℕ) → length (load_packet device draw) ≡ packet_size draw
 unfolding load_packet
 packet_length device draw = omega

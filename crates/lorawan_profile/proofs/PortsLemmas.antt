@@ -57,6 +57,8 @@ other-sent : (role : Role) (port : ℕ) (b : Bool) → IsSent role port (if b th
 other-sent role port true = tt
 other-sent role port false = tt
 
+-- fragments that come by a port are those that the other end sends by it, and answers are those to
+-- what this end sends by it, with the same parameters
 pub IsSent-meaning_of : (role : Role) (port : ℕ) → IsSent role port (meaning_of role port)
 unfolding meaning_of
 IsSent-meaning_of Device port =
@@ -84,6 +86,7 @@ other-whole role port h =
     whole-cases (is_application_port port) (not (port == 20)) (not (port == 21)) (not (port == 222))
     (not (port == 223)) h.0 h.1 h.2 h.3
 
+-- whole packets come by the ports 1 to 223 but the four of fragments, and by no other
 pub meaning_of-whole : (role : Role) (port : ℕ)
     → (meaning_of role port ≡ Whole) ↔ (is_whole port ≡ true)
 unfolding meaning_of is_whole

@@ -75,6 +75,7 @@ due_in-fits sender Closing is h =
     (can_abort sender.params is.row, room_abort sender.params sender.mtu is.row is.in_range)
 due_in-fits sender Quiet is h = tt
 
+-- what is due of a sender can be written, and fits in a frame
 pub due_fits : DueFits
 unfolding due_message
 due_fits sender is = due_in-fits sender sender.state is is.stands
@@ -145,11 +146,13 @@ due_in-checks sender Closing bytes w rcs from payload is h e spells =
     absurd (cc none)
 due_in-checks sender Quiet bytes w rcs from payload is h e spells = absurd (cc e)
 
+-- what is due and is read as an All-1 carries the RCS of the padded packet
 pub all1_checks : All1Checks
 unfolding due_message
 all1_checks sender bytes w rcs from payload is e spells =
     due_in-checks sender sender.state bytes w rcs from payload is is.stands e spells
 
+-- the payload of a Regular, as it is read, is its tile
 pub tile_arrives : TileArrives
 unfolding fragment_of
 tile_arrives sender i is h =
@@ -196,6 +199,7 @@ behind-front front tile e =
     ∙ drop_at front (tile ++ replicate ((8 - length (front ++ tile) % 8) % 8) false) 33 e
     ∙ ap (λ (n : ℕ). tile ++ replicate ((8 - n % 8) % 8) false) size
 
+-- the tiles of all Regulars and then the payload of the All-1, as it is read, are the padded packet
 pub last_arrives : LastArrives
 unfolding fragment_of last_index padded_packet
 last_arrives sender is =

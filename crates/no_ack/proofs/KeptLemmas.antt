@@ -13,6 +13,8 @@ use Rattle.no_ack.specs.declared.states.NoAckSenderState.{NoAckSenderState}
 use Rattle.no_ack.specs.declared.states.NoAckSenderState.TheVariants.{Sending, Closing, Quiet}
 use Rattle.no_ack.proofs.SenderLemmas.{moved}
 
+-- a session of the mode that begins, with MTU and packet length in range, has all that holds of a
+-- sender
 pub begins_one : BeginsOne
 begins_one params mtu last bits row range least most =
     record { row = row; in_range = range; least = least; most = most; stands = omega arith }
@@ -35,6 +37,7 @@ aborted-stands last (Sending i) = tt
 aborted-stands last Closing = tt
 aborted-stands last Quiet = tt
 
+-- after its message was given, and after an abort, a sender has all that holds of every sender
 pub stays_one : StaysOne
 unfolding sent aborted
 stays_one sender is =
@@ -46,6 +49,7 @@ stays_one sender is =
           (aborted-stands (last_index sender) sender.state);
     }
 
+-- neither giving a message nor an abort changes the parameters, the MTU or the SCHC packet
 pub keeps_session : KeepsSession
 unfolding sent aborted
 keeps_session sender = (
@@ -71,6 +75,7 @@ none-in sender (Sending i) = (λ h. absurd (cc h), λ h. absurd (sending-moves h
 none-in sender Closing = (λ h. absurd (cc h), λ h. absurd (closing-moves h))
 none-in sender Quiet = (λ h. inr refl, λ h. refl)
 
+-- nothing is due exactly where the sender waits, which it never does here, or the session has ended
 pub none_due : NoneDue
 unfolding due_message
 none_due sender = none-in sender sender.state

@@ -27,6 +27,7 @@ last-joins kept tile assembly rcs true true e f = rw (e, f) (λ h. (refl, h), λ
 last-joins kept tile assembly rcs true false e f =
     rw (e, f) (λ h. absurd (cc h), λ h. absurd (cc h.0))
 
+-- an assembly is seen beforehand exactly where the message makes its check over it, and joins it
 pub preview-joins : (message : Message) (payload : List Bool) (receiver : NoAckReceiverData)
     (assembly : List Bool)
     → (previewed message payload receiver ≡ Some assembly) ↔
@@ -74,6 +75,7 @@ last-is-join kept tile rcs false pass e f = rw e (λ h. absurd (cc h.1), λ h. a
 last-is-join kept tile rcs true true e f = rw (e, f) (λ h. refl, λ h. (kept ++ tile, refl))
 last-is-join kept tile rcs true false e f = rw (e, f) (λ h. absurd (cc h.1), λ h. absurd (cc h))
 
+-- some assembly is seen beforehand exactly where taking the message joins the packet
 pub preview_is_join : PreviewIsJoin
 unfolding previewed completes checked taken last_step tile_step
 preview_is_join (form.All1 w rcs from) payload receiver =
@@ -115,6 +117,7 @@ last-passes kept tile assembly rcs true true e f =
     ))
 last-passes kept tile assembly rcs true false e f = rw (e, f) (λ h. absurd (cc h))
 
+-- what is seen beforehand is what is checked, it has the RCS of the All-1, and there is room for it
 pub preview_passes : PreviewPasses
 unfolding previewed completes checked
 preview_passes (form.All1 w rcs from) payload assembly receiver h =

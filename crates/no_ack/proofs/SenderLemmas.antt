@@ -29,6 +29,7 @@ pub record HasTiles (sender : NoAckSenderData) (ends : List ℕ) : Type 0 where
   pub some : 1 ≤ length ends
   pub last : length ends - 1 ≡ last_index sender
 
+-- of the places where tiles end there is one or more, and the last is that of the last tile
 pub has_tiles : (sender : NoAckSenderData) (ends : List ℕ) → IsNoAckSender sender
     → ends ≡ tile_ends sender.params sender.mtu (length sender.bits) → HasTiles sender ends
 unfolding last_index
@@ -51,6 +52,7 @@ pub record IsTileOf (sender : NoAckSenderData) (ends : List ℕ) (i : ℕ) : Typ
   pub piece : take (get_or ends i 0 - get_or (0 ∷ ends) i 0)
       (drop (get_or (0 ∷ ends) i 0) sender.bits) ≡ tile_at sender i
 
+-- each tile is the piece of the packet from where the one before it ends to its own end
 pub is_tile : (sender : NoAckSenderData) (ends : List ℕ) (i : ℕ) → IsNoAckSender sender
     → ends ≡ tile_ends sender.params sender.mtu (length sender.bits) → i ≤ last_index sender
     → IsTileOf sender ends i
@@ -92,6 +94,7 @@ regular_is sender i is h =
     (subst (λ (p : FragParams). suc i < length (tile_sizes p sender.mtu (length sender.bits)))
     is.row inside))
 
+-- each tile but the last fills whole bytes with the one bit of the FCN before it
 pub regular_whole : (sender : NoAckSenderData) (i : ℕ) → IsNoAckSender sender
     → i < last_index sender → (length (tile_at sender i) + 1) % 8 ≡ 0
 unfolding last_index
@@ -108,6 +111,7 @@ regular_whole sender i is h =
     (subst (λ (p : FragParams). suc i < length (tile_sizes p sender.mtu (length sender.bits)))
     is.row inside))
 
+-- the last tile fits in a frame, with the FCN and the RCS before it
 pub last_is : (sender : NoAckSenderData) → IsNoAckSender sender
     → 33 + length (tile_at sender (last_index sender)) ≤ 8 * sender.mtu
 unfolding last_index
@@ -138,6 +142,7 @@ moved sender state is h =
 pub length-written : (bits : List Bool) → length (bytes_of (padded bits)) ≡ (length bits + 7) / 8
 length-written bits = length-bytes_of (padded bits) ∙ omega (arith, length-padded bits)
 
+-- in the No-ACK mode W has no bits, and FCN has one
 pub row-bits : (params : FragParams) → params ≡ params_of mode.NoAck → (params.w_bits ≡ 0)
     × (params.fcn_bits ≡ 1)
 row-bits params row =
@@ -160,6 +165,7 @@ head-room params w fcn mtu rest row h =
       h,
     )
 
+-- a Regular with W and FCN of 0 and eight bits of payload or more can be written
 pub can_regular : (params : FragParams) (w from : ℕ) (payload : List Bool)
     → params ≡ params_of mode.NoAck → w ≡ 0 → 8 ≤ length payload
     → CanSpell params side.Fragments (form.Regular w 0 from) payload
@@ -167,6 +173,7 @@ can_regular params w from payload row h k =
     subst (λ (p : FragParams). CanSpell p side.Fragments (form.Regular w 0 from) payload) (sym row)
     (h, refl, omega (arith, k))
 
+-- an All-1 with a W of 0 and an RCS that fits 32 bits can be written, whatever its payload
 pub can_all1 : (params : FragParams) (w rcs from : ℕ) (payload : List Bool)
     → params ≡ params_of mode.NoAck → w ≡ 0 → rcs < 2 ^ 32
     → CanSpell params side.Fragments (form.All1 w rcs from) payload
@@ -174,17 +181,20 @@ can_all1 params w rcs from payload row h k =
     subst (λ (p : FragParams). CanSpell p side.Fragments (form.All1 w rcs from) payload) (sym row)
     (h, k)
 
+-- a Sender-Abort can be written
 pub can_abort : (params : FragParams) → params ≡ params_of mode.NoAck
     → CanSpell params side.Fragments form.SenderAbort []
 can_abort params row =
     subst (λ (p : FragParams). CanSpell p side.Fragments form.SenderAbort []) (sym row) refl
 
+-- a Regular whose payload fits in a frame, with one bit before it, is no longer than the MTU
 pub room_regular : (params : FragParams) (w from mtu : ℕ) (payload : List Bool)
     → params ≡ params_of mode.NoAck → length payload + 1 ≤ 8 * mtu
     → length (written params (form.Regular w 0 from) payload) ≤ mtu
 room_regular params w from mtu payload row h =
     head-room params w 0 mtu payload row (omega (arith, h))
 
+-- an All-1 whose payload fits in a frame, with 33 bits before it, is no longer than the MTU
 pub room_all1 : (params : FragParams) (w rcs from mtu : ℕ) (payload : List Bool)
     → params ≡ params_of mode.NoAck → 33 + length payload ≤ 8 * mtu
     → length (written params (form.All1 w rcs from) payload) ≤ mtu
@@ -214,6 +224,7 @@ room_all1 params w rcs from mtu payload row h =
       h,
     )
 
+-- a Sender-Abort is no longer than any MTU in range
 pub room_abort : (params : FragParams) (mtu : ℕ) → params ≡ params_of mode.NoAck → IsMtu mtu
     → length (written params form.SenderAbort []) ≤ mtu
 room_abort params mtu row h =

@@ -59,6 +59,7 @@ pub record IsUnderRule (iids : Iids) (direction : Direction) (packet : List ℕ)
       (computed_over (stack_of listed.rule) packet) ≡ true
   pub is : f ≡ schc_packet_under listed.rule direction packet split
 
+-- a listed rule that has an SCHC packet of the packet is live and matches it, as it is split
 pub schc_packet-parts : (iids : Iids) (direction : Direction) (packet : List ℕ) (listed : Listed)
     (f : SchcPacketData) → schc_packet_by iids direction packet listed ≡ Some f
     → IsUnderRule iids direction packet listed f
@@ -320,6 +321,8 @@ next-least iids direction packet listed rules (Some h) (Some g) f e r rest s =
           (preferred-false (candidate_of h) (candidate_of g) n))
     ]
 
+-- of the SCHC packets under these rules the one that is taken is no longer than any other:
+-- it has fewer bits, or as many under a RuleID that isn't higher
 pub shortest-least : (iids : Iids) (direction : Direction) (packet : List ℕ) (rules : List Listed)
     (f : SchcPacketData) → shortest iids direction packet rules ≡ Some f
     → IsShortest iids direction packet rules f

@@ -81,6 +81,7 @@ passes_each test (y ∷ xs) h x among =
       | inr rest ↦ passes_each test xs parts.1 x rest
     ]
 
+-- where each element of a list passes a test, whether all do is computed to true
 pub each_passes : {X : Type 0} (test : X → Bool) (xs : List X)
     → ((x : X) → Contains xs x → test x ≡ true) → list_all test xs ≡ true
 each_passes test [] h = refl
@@ -106,6 +107,7 @@ passes_some test xs h =
     let some : Any (λ x. test x ≡ true) xs = Any-from_list_any test xs h in
     (some.1, (some.0, some.2, some.3), some.4)
 
+-- where one element of a list passes a test, whether any does is computed to true
 pub some_passes : {X : Type 0} (test : X → Bool) (xs : List X) (x : X) → Contains xs x
     → test x ≡ true → list_any test xs ≡ true
 some_passes test xs x among t = list_any-from_Any test xs (among.0, x, among.1, among.2, t)
@@ -202,6 +204,8 @@ value_along direction h (x ∷ later) e at apart among s =
           (subst (λ (es : List EntryData). Contains es e) (kept-unused direction x later f) among) s
     ]
 
+-- where no entry repeats another, the field of an entry that is used in the direction has the
+-- value that was made for that entry
 pub mapped_value : (rule : RuleData) (direction : Direction) (h : EntryData → List Bool)
     (e : EntryData) → AreApart rule.entries → Contains (covered rule direction) e
     → value_of (map (with_values h) (covered rule direction)) (field_of e) ≡ h e
@@ -259,6 +263,7 @@ ip_listed UdpLength h k = absurd (true≢false k)
 ip_listed UdpChecksum h k = absurd (true≢false k)
 ip_listed name h k = absurd (true≢false h)
 
+-- a name that isn't of CoAP is that of a field of IPv6 or UDP
 pub udp_listed : (name : FieldName) → same_layer (layer_of name) layer.Coap ≡ false
     → list_any (same_name name) (ip_fields ++ udp_fields) ≡ true
 udp_listed IpVersion h = refl
@@ -288,6 +293,7 @@ stack_listed true udp name r h k = absurd r
 stack_listed false true name r h k = udp_listed name (h refl)
 stack_listed false false name r h k = ip_listed name (h refl) (k refl)
 
+-- no field of a stack without CoAP is an option
 pub no_option : (name : FieldName) (of : Stack) → IsWithoutCoap of
     → list_any (same_name name) (fields_of_stack of) ≡ true → is_option name ≡ false
 no_option name stack.Ip r h =
@@ -310,6 +316,7 @@ position_one (suc (suc n)) a b c = omega (arith, ltb-false 1 (suc (suc n)) b)
 abbrev placed : FieldName → ℕ → FieldAt
 placed name position = record { name = name; position = position }
 
+-- an entry whose shape isn't wrong, and which isn't of an option, is of a field at position 1
 pub first_position : (e : EntryData) → shape_wrong e ≡ false → is_option e.name ≡ false
     → field_of e ≡ at_name e.name
 first_position e h o =
@@ -375,6 +382,8 @@ name_entered rule direction name admitted r s among =
           ∙ ap at_name (same_name-true some.0.name name some.2),
     )
 
+-- an admitted rule of a stack without CoAP that serves the direction has an entry there for each
+-- field of the headers, and none of another
 pub Covers-from_reads : (rule : RuleData) (direction : Direction) → IsAdmitted rule
     → IsWithoutCoap (stack_of rule) → reads rule direction ≡ true → Covers rule direction
 Covers-from_reads rule direction admitted without h =

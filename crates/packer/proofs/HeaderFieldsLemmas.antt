@@ -35,6 +35,7 @@ abbrev pub are_apart : List FieldName → Bool
 are_apart [] = true
 are_apart (name ∷ names) = list_all (λ other. not (same_name name other)) names && are_apart names
 
+-- in packet order, no name of a stack without CoAP stands twice
 pub names-apart : (of : Stack) (direction : Direction) → IsWithoutCoap of
     → are_apart (fields_in_packet_order of direction) ≡ true
 names-apart stack.Ip Up h = refl
@@ -53,6 +54,7 @@ other_at direction packet name other h e =
     subst (λ n. same_name name n ≡ true) same (same_name-itself name) in
     absurd (cc)
 
+-- of names of which none stands twice, no two of the packet's fields have one name and position
 pub once_along : (direction : Direction) (packet : List ℕ) (names : List FieldName)
     → are_apart names ≡ true → AllPairs (λ f g. f.at ≢ g.at) (map (field_in direction packet) names)
 once_along direction packet [] h = λ i j d l k. absurd (omega arith)
@@ -75,6 +77,7 @@ pub width_from : (o : Option ℕ) (value : List Bool) → length value ≡ unwra
 width_from None value e = tt
 width_from (Some width) value e = e
 
+-- where the packet has for each name as many bits as its width, these fields have their widths
 pub widths_along : (direction : Direction) (packet : List ℕ) (names : List FieldName)
     → AllByRecursion (λ n. length (field_bits direction packet n) ≡ bits_of n) names
     → All (λ f. WidthHolds f.at.name f.value) (map (field_in direction packet) names)
@@ -96,6 +99,7 @@ is_below_coap CoapToken = false
 is_below_coap (CoapOption number) = false
 is_below_coap _ = true
 
+-- no name of a stack without CoAP is one of CoAP
 pub names-below : (of : Stack) (direction : Direction) → IsWithoutCoap of
     → list_all is_below_coap (fields_in_packet_order of direction) ≡ true
 names-below stack.Ip Up h = refl
@@ -104,6 +108,7 @@ names-below stack.IpUdp Up h = refl
 names-below stack.IpUdp Down h = refl
 names-below stack.IpUdpCoap direction h = absurd h
 
+-- nor is any field of a packet, under the names of a stack without CoAP, one of CoAP
 pub fields-below : (of : Stack) (direction : Direction) (packet : List ℕ) → IsWithoutCoap of
     → All (λ f. is_below_coap f.at.name ≡ true)
     (map (field_in direction packet) (fields_in_packet_order of direction))
@@ -125,6 +130,7 @@ kind_of rule admitted e among =
     not-false (is_length_of e.name e.length)
     (or_parts (not (is_length_of e.name e.length)) (e.position == 0) first.0).0
 
+-- an entry that is used in the direction is one of the rule's entries
 pub of_rule : (rule : RuleData) (direction : Direction) (e : EntryData)
     → Contains (covered rule direction) e → Contains rule.entries e
 of_rule rule direction e h =

@@ -39,6 +39,7 @@ is_refused : (of : Stack) (direction : Direction) (packet : List ℕ) (fault : S
     → refusal of packet ≡ Some fault → split_headers of direction packet ≡ None
 is_refused of direction packet fault e = rw e refl
 
+-- a packet that is refused as one of a stack without CoAP isn't split as one
 pub refused-split_of : (of : Stack) (direction : Direction) (packet : List ℕ) (fault : SplitFault)
     → IsWithoutCoap of → refusal of packet ≡ Some fault → split_of of direction packet ≡ None
 unfolding split_of
@@ -52,6 +53,7 @@ message-within : (bytes : List ℕ) (fields : List FieldValue) (from : ℕ)
     → MessageOf bytes fields from → from ≤ length bytes
 message-within bytes fields from m = omega (arith, m.its_payload)
 
+-- the payload of a packet begins within the packet, or at its end
 pub from-within : (of : Stack) (direction : Direction) (packet : List ℕ) (fields : List FieldValue)
     (from : ℕ) → PacketOf of direction packet fields from → from ≤ length packet
 from-within stack.Ip direction packet fields from p =

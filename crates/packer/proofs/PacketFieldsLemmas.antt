@@ -37,6 +37,7 @@ PacketOf-fields stack.Ip direction packet fields from h p = p
 PacketOf-fields stack.IpUdp direction packet fields from h p = p
 PacketOf-fields stack.IpUdpCoap direction packet fields from h p = absurd h
 
+-- and the other way round: what has the fields of a stack without CoAP is a packet of it
 pub fields-PacketOf : (of : Stack) (direction : Direction) (packet : List ℕ)
     (fields : List FieldValue) (from : ℕ) → IsWithoutCoap of
     → FieldsOf of direction packet fields from → PacketOf of direction packet fields from
@@ -98,6 +99,7 @@ named-field of direction packet fields from f p among =
     (subst (λ (all : List FieldValue). Contains all f) p.its_fields among) in
     (m.0, from-order of direction m.0 (without_coap of packet p.is_packet) m.1, m.2)
 
+-- a packet of a stack without CoAP has among its fields its own for each name of the stack
 pub field-named : (of : Stack) (direction : Direction) (packet : List ℕ) (fields : List FieldValue)
     (from : ℕ) (name : FieldName) → FieldsOf of direction packet fields from
     → Contains (fields_of_stack of) name → Contains fields (field_in direction packet name)

@@ -8,6 +8,7 @@ use Rattle.decompress.proofs.LawLemmas.{all_from, all_at}
 use Rattle.ip_udp_fields.specs.Layout.{IsWithoutCoap, fields_in_packet_order}
 use Rattle.ip_udp_fields.proofs.SpanLemmas.{to_packet_order, from_packet_order}
 
+-- a name of a stack without CoAP is among its names in packet order
 pub to-order : (of : Stack) (direction : Direction) (name : FieldName) → IsWithoutCoap of
     → Contains (fields_of_stack of) name → Contains (fields_in_packet_order of direction) name
 to-order of direction name h among =
@@ -16,6 +17,7 @@ to-order of direction name h among =
     (all_from (Contains (fields_in_packet_order of direction))
     (fields_in_packet_order of direction) (λ n c. c))) name among
 
+-- and a name in packet order is one of the stack's
 pub from-order : (of : Stack) (direction : Direction) (name : FieldName) → IsWithoutCoap of
     → Contains (fields_in_packet_order of direction) name → Contains (fields_of_stack of) name
 from-order of direction name h among =

@@ -47,6 +47,7 @@ pub split_headers-fields : (of : Stack) (direction : Direction) (packet : List �
 split_headers-fields of direction packet s h e =
     headers_some of direction packet s (refusal of packet) h refl e
 
+-- a packet of a stack without CoAP is split into its fields, with the place of its payload
 pub fields-split_headers : (of : Stack) (direction : Direction) (packet : List ℕ)
     (fields : List FieldValue) (from : ℕ) → IsWithoutCoap of
     → FieldsOf of direction packet fields from
@@ -142,6 +143,7 @@ packet-one of direction packet fields from s p e =
     let parts : record { fields = fields; payload_from = from } ≡ s = cc in
     (ap (λ (s : SplitData). s.fields) parts, ap (λ (s : SplitData). s.payload_from) parts)
 
+-- a packet has one list of fields in a stack, and one place where its payload begins
 pub packet-both : (of : Stack) (direction : Direction) (packet : List ℕ) (these : List FieldValue)
     (here : ℕ) (those : List FieldValue) (there : ℕ) → PacketOf of direction packet these here
     → PacketOf of direction packet those there → (these ≡ those) × (here ≡ there)

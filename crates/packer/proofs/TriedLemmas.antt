@@ -95,6 +95,7 @@ match-same rule iids direction fields packet computed h =
     (λ f among. entries_same rule iids direction computed all f h.payload_length h.udp_length
     h.checksum))
 
+-- a packet of any stack is one of IPv6
 pub ipv6-of : (of : Stack) (direction : Direction) (packet : List ℕ) (fields : List FieldValue)
     (from : ℕ) → PacketOf of direction packet fields from → IsIpv6 packet
 ipv6-of stack.Ip direction packet fields from p = p.is_packet
@@ -115,6 +116,8 @@ pub record HasBits (rule : RuleData) (direction : Direction) (packet : List ℕ)
 two_sixty : 1000000 < 2 ^ 62
 two_sixty = omega arith
 
+-- where an admitted rule matches, the SCHC packet has 8 bits, the residue and the payload,
+-- and at most 12,068 bits of a packet of at most 1,500 bytes
 pub has-bits : (rule : RuleData) (iids : Iids) (direction : Direction) (packet : List ℕ)
     (split : SplitData) → IsAdmitted rule → AreBytes packet
     → split_of (stack_of rule) direction packet ≡ Some split
@@ -162,6 +165,7 @@ has-bits rule iids direction packet split admitted bytes e t =
 abbrev with : ℕ → ℕ → Candidate
 with id bits = record { rule_id = id; bits = bits }
 
+-- a rule that is tried and doesn't match the packet is no candidate under its RuleID
 pub tried-none : (rules : List Listed) (iids : Iids) (direction : Direction) (packet : List ℕ)
     (split : SplitData) (computed : Computed) (id : ℕ) (listed : Listed)
     → lookup rules id ≡ Some listed → CanBeTried direction packet split computed listed
@@ -177,6 +181,7 @@ tried-none rules iids direction packet split computed id listed found can f =
     rw (can.is_live, can.its_split, no) refl in
     ap (candidate_by iids direction packet) found ∙ ap (option_map candidate_of) schc_packet
 
+-- a rule that is tried and matches is a candidate with as many bits as its SCHC packet has
 pub tried-some : (rules : List Listed) (iids : Iids) (direction : Direction) (packet : List ℕ)
     (split : SplitData) (computed : Computed) (id bits : ℕ) (listed : Listed)
     → lookup rules id ≡ Some listed → CanBeTried direction packet split computed listed

@@ -69,6 +69,8 @@ chosen-read writer reader iids direction packet padding id bits sound bytes ipv6
       reads = read-whole reader iids direction packet padding bytes ipv6 short;
     }
 
+-- what one edition writes is read with another that has the same rule under the RuleID, with up to
+-- 7 bits behind it: as the packet that the other end restores
 pub reads_what_was_written : ReadsWhatWasWritten
 reads_what_was_written writer reader iids direction packet padding sound other bytes ipv6 short
     agree =

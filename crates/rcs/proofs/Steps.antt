@@ -43,6 +43,7 @@ unfolding low_bits plus
 low_bits-xor zero a b = refl
 low_bits-xor (suc n) a b = rw (xor_parity a b, xor_shr a b 1, low_bits-xor n (a / 2) (b / 2)) refl
 
+-- the bits of 0 are all 0
 pub low_bits-zero : (k : ℕ) → low_bits k 0 ≡ replicate k false
 unfolding low_bits
 low_bits-zero zero = refl
@@ -59,6 +60,7 @@ low_bits-more (suc n) k v h =
     ap (λ m. low_bits m v) (let e : suc n + k ≡ suc (n + k) = omega arith in e)
     ∙ ap (λ bits. (v % 2 == 1) ∷ bits) (low_bits-more n k (v / 2) (half v n h))
 
+-- a number in n bits, the lowest first, is n bits
 pub length-low_bits : (n v : ℕ) → length (low_bits n v) ≡ n
 unfolding low_bits
 length-low_bits zero v = refl
@@ -76,6 +78,7 @@ bit_sum-false : (x : Bool) → bit_sum x false ≡ x
 bit_sum-false true = refl
 bit_sum-false false = refl
 
+-- to add zeros, as many as there are coefficients, changes nothing
 pub plus-zeros_right : (xs : List Bool) → plus xs (replicate (length xs) false) ≡ xs
 unfolding plus
 plus-zeros_right [] = refl
@@ -192,6 +195,7 @@ pub byte_step-below : (w v : ℕ) → w < 2 ^ 32 → v < 256 → byte_step w v <
 unfolding byte_step
 byte_step-below w v h k = bit_steps-below 8 (bit_xor w v) (xor_lt 32 w v h (omega (arith, k)))
 
+-- eight steps of the division, where a word is added to a byte and more behind it, are its step
 pub byte-step : (w v count : ℕ) (rest : List Bool) → w < 2 ^ 32 → v < 256 → 32 ≤ length rest
     → remainder (8 + count) (plus (low_bits 32 w) (low_bits 8 v ++ rest)) ≡ remainder count
     (plus (low_bits 32 (byte_step w v)) rest)
@@ -207,6 +211,7 @@ word_after-below [] w h small = h
 word_after-below (byte ∷ bytes) w h small =
     word_after-below bytes (byte_step w byte) (byte_step-below w byte h small.0) small.1
 
+-- the word after more bytes is the one that they make of the word after the bytes before
 pub word_after-append : (front back : List ℕ) (w : ℕ)
     → word_after w (front ++ back) ≡ word_after (word_after w front) back
 unfolding word_after

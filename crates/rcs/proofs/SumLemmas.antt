@@ -83,6 +83,7 @@ check-sums bits =
     (word_after-append bytes (bytes_of (padded (begun_of bits))) 4294967295)
     )
 
+-- an empty register holds the sum of no bits
 pub sums-none : Sums empty_sum []
 unfolding Sums added empty_sum begun_of bytes_of first_bytes word_after
 sums-none = refl
@@ -92,6 +93,7 @@ pub sums-more : (old new : Sum) (bits more : List Bool) → new ≡ added old mo
 unfolding Sums
 sums-more old new bits more e h = e ∙ ap (λ s. added s more) h ∙ added-more empty_sum bits more
 
+-- the check of a register that holds the sum of the bits is their reassembly check sequence
 pub sums-value : (sum : Sum) (bits : List Bool) (value : ℕ) → value ≡ check_of_sum sum
     → Sums sum bits → value ≡ rcs_of bits
 unfolding Sums
@@ -318,6 +320,7 @@ rcs-from value begin first last bits rest e f g h = h
 pub one-shl : (k : ℕ) → k ≤ 8 → 1 * 2 ^ k % 4294967296 ≡ 2 ^ k
 one-shl k h = let few : 2 ^ k ≤ 2 ^ 8 = pow_mono h in omega (arith, few)
 
+-- a number in `count` bits with one in `width` bits behind it is one in `count + width` bits
 pub window-below : (count part width value : ℕ) → part < 2 ^ count → value < 2 ^ width
     → part * 2 ^ width + value < 2 ^ (count + width)
 window-below count part width value h k =
@@ -326,6 +329,7 @@ window-below count part width value h k =
     subst (λ n. part * 2 ^ width + value < 2 ^ n)
     (let e : width + count ≡ count + width = omega arith in e) below
 
+-- a number that is moved up to at most 16 bits loses nothing in a word of 32 bits
 pub shl-small : (part width count : ℕ) → part < 2 ^ count → count + width ≤ 16
     → part * 2 ^ width % 4294967296 ≡ part * 2 ^ width
 shl-small part width count h few =
@@ -344,6 +348,7 @@ bytes-more word count part byte window rest h e few small =
     (put-long word count part 8 byte window count (omega (arith, h)) e long few small)
     ∙ added-more (sum_of word count part) (number_bits 8 byte) (octets rest)
 
+-- to add no bits changes nothing, where fewer bits than a byte has are begun
 pub bytes-none : (word count part : ℕ) → count < 8 → part < 2 ^ count
     → sum_of word count part ≡ added (sum_of word count part) []
 unfolding added word_after sum_at

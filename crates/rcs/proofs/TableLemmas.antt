@@ -74,11 +74,13 @@ table_is : TABLE ≡ words_from 256 0
 unfolding words_from bit_steps bit_step
 table_is = refl
 
+-- at each number below 256 the table has the word that the eight steps make of it
 pub table-at : (k default : ℕ) → k < 256 → get_or TABLE k default ≡ bit_steps 8 k
 table-at k default h =
     ap (λ (words : List ℕ). get_or words k default) table_is ∙ words_from-at 256 0 k default h
     ∙ ap (λ n. bit_steps 8 n) (let e : 0 + k ≡ k = omega arith in e)
 
+-- the step of a byte, by the table's word at the lowest eight bits of word and byte summed
 pub table-step : (word byte mixed : ℕ) → mixed ≡ bit_xor word byte
     → bit_xor (mixed / 256) (get_or TABLE (mixed % 256) 0) ≡ byte_step word byte
 unfolding byte_step

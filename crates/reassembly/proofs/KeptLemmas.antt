@@ -19,6 +19,7 @@ use Rattle.rcs.specs.Words.{Sum, Sums}
 use Rattle.rcs.proofs.SumLemmas.{join-bits, window-below, shl-small}
 use Rattle.reassembly.specs.Joining.{has_room, passes}
 
+-- as many bits are kept as are counted, where the buffer has so many
 pub length-kept : (count : ℕ) (bytes : List ℕ) → count ≤ 8 * length bytes
     → length (take count (octets bytes)) ≡ count
 length-kept count bytes h =
@@ -33,6 +34,7 @@ tail-bits from bytes =
     ∙ drop-drop (from % 8) (8 * (from / 8)) (octets bytes)
     ∙ ap (λ n. drop n (octets bytes)) place
 
+-- the bits from an index on are eight for each byte, less the index
 pub length-tail : (from : ℕ) (bytes : List ℕ)
     → length (drop from (octets bytes)) ≡ 8 * length bytes - from
 length-tail from bytes = length-drop from (octets bytes) ∙ ap (λ n. n - from) (length-octets bytes)
@@ -52,6 +54,7 @@ joined-bits byte used low value width e h =
     ∙ ap (λ bits. bits ++ number_bits width value)
     (sym (take-number_bits used low byte) ∙ ap (λ n. take used (number_bits n byte)) e)
 
+-- the byte that is joined begins with the first `used` bits of the old one; the value's bits follow
 pub with-bits : (byte used value width : ℕ) → used + width ≤ 8 → value < 2 ^ width
     → take (used + width)
     (number_bits 8 ((byte / 2 ^ (8 - used) * 2 ^ width + value) * 2 ^ (8 - used - width))) ≡ take
@@ -75,6 +78,7 @@ joined-below byte used value width small h k =
     shr_below byte used (8 - used) (subst (λ n. byte < 2 ^ n) (sym all) small) in
     window-below used (byte / 2 ^ (8 - used)) width value front k
 
+-- to join it in words of 32 bits loses none of its bits
 pub with-exact : (word byte used value width : ℕ) → word ≡ byte → byte < 256 → used + width ≤ 8
     → value < 2 ^ width
     → (word / 2 ^ (8 - used) * 2 ^ width % 4294967296 + value) * 2 ^
@@ -91,6 +95,7 @@ with-exact word byte used value width same small h k =
     ∙ shl-small (byte / 2 ^ (8 - used) * 2 ^ width + value) (8 - used - width) (used + width)
     (joined-below byte used value width small h k) (omega (arith, h))
 
+-- what is joined so fits in a byte
 pub with-fits : (byte used value width : ℕ) → byte < 256 → used + width ≤ 8 → value < 2 ^ width
     → (byte / 2 ^ (8 - used) * 2 ^ width + value) * 2 ^ (8 - used - width) < 256
 with-fits byte used value width small h k =
@@ -134,6 +139,7 @@ put-bits (byte ∷ bytes) (suc i) used width now default more h k e =
     (sym (ap (λ n. take n (number_bits 8 byte ++ octets bytes)) begin
     ∙ take-append-add (number_bits 8 byte) (octets bytes) (8 * i + used)))
 
+-- when the byte in which the bits end goes on with more, these stand behind those that were kept
 pub put-kept : (bytes : List ℕ) (count width now default : ℕ) (more : List Bool)
     → count / 8 < length bytes → count % 8 + width ≤ 8
     → take (count % 8 + width) (number_bits 8 now) ≡ take (count % 8)
@@ -167,6 +173,7 @@ two-pieces byte first width value rest later old now end whole e f g h =
     ∙ ap (λ x. old ++ (take width (drop first bits) ++ x)) (f ∙ all ∙ behind)
     ∙ ap (λ x. old ++ x) (take-append-drop width (drop first bits))
 
+-- a piece up to the byte's end puts all of its bits from `first` on behind those that were kept
 pub one-piece : (byte first width value : ℕ) (old now : List Bool) → 8 ≤ first + width
     → number_bits width value ≡ take width (drop first (number_bits 8 byte))
     → now ≡ old ++ number_bits width value → now ≡ old ++ drop first (number_bits 8 byte)
@@ -182,11 +189,13 @@ part-left from bytes h =
     let e : 8 * (length bytes - from / 8) - from % 8 ≡ 8 * length bytes - from = omega (arith, h) in
     e ∙ sym (length-tail from bytes)
 
+-- where there is room for a part, it and what is kept have at most 20,240 bits
 pub has-room : (kept part : List Bool) → has_room kept part ≡ true
     → length kept + length part ≤ 20240
 unfolding has_room
 has-room kept part h = leb-true (length kept + length part) 20240 h
 
+-- for a part of more than 20,240 bits there is no room, whatever is kept
 pub has-no-room : (kept part : List Bool) → 20240 < length part → false ≡ has_room kept part
 unfolding has_room
 has-no-room kept part h = sym (lt-leb (length kept + length part) 20240 (omega (arith, h)))
@@ -199,6 +208,7 @@ byte-off first byte rest later h e =
     ∙ drop-append-le first (number_bits 8 byte) (octets later)
     (omega (arith, h, length-number_bits 8 byte))
 
+-- of a part for which there was room, the next byte has room behind what is kept by then
 pub room-for-byte : (old now part : List Bool) (first byte : ℕ) (rest later : List ℕ) → first < 8
     → rest ≡ byte ∷ later → now ++ drop first (octets rest) ≡ old ++ part → has_room old part ≡ true
     → length now + (8 - first) ≤ 20240
@@ -217,6 +227,7 @@ room-for-byte old now part first byte rest later h e f room =
       length-number_bits 8 byte,
     )
 
+-- with the bits of the next byte behind it, what is kept and the part's later bytes are still all
 pub byte-kept : (all now new : List Bool) (first byte : ℕ) (rest later : List ℕ) → first < 8
     → rest ≡ byte ∷ later → now ++ drop first (octets rest) ≡ all
     → new ≡ now ++ drop first (number_bits 8 byte) → new ++ octets later ≡ all
@@ -249,6 +260,7 @@ part-sums begin front all kept buffer bytes rest count from h e view s f g =
     (take_all (8 * length rest - from % 8) (drop (from % 8) (octets rest)) size ∙ part)
     (g kept first)
 
+-- the check passes exactly where the check sequence of the kept bits and the part is the one sent
 pub checked : (value rcs : ℕ) (kept part : List Bool) → value ≡ rcs_of (kept ++ part)
     → (value == rcs) ≡ passes kept part rcs
 unfolding passes
@@ -261,6 +273,7 @@ pub kept-copied : (kept : List Bool) (buffer front : List ℕ) (count whole : �
 kept-copied kept buffer front count whole h e view = ap (λ bytes. take count (octets bytes)) e
     ∙ front-bits count whole buffer h ∙ view
 
+-- as far as a part for which there was room is put in, at most 20,240 bits are kept
 pub room-kept : (old now part more : List Bool) → now ++ more ≡ old ++ part
     → has_room old part ≡ true → length now ≤ 20240
 room-kept old now part more e room =

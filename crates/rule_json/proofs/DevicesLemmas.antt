@@ -5,6 +5,7 @@ use Rattle.serde_json.specs.View.{view, items_view}
 use Rattle.serde_json.specs.declared.value.Value.{Value}
 use Rattle.rule_json.specs.Devices.{timers_from}
 
+-- a list of fewer than four values isn't read as timers
 pub timers-few : (vs : List Value) → length vs < 4 → timers_from (items_view vs) ≡ None
 unfolding timers_from
 timers-few [] h = refl
@@ -13,6 +14,7 @@ timers-few (a ∷ b ∷ []) h = refl
 timers-few (a ∷ b ∷ c ∷ []) h = refl
 timers-few (a ∷ b ∷ c ∷ d ∷ vs) h = absurd (omega (arith, h))
 
+-- a list of more than four values isn't read as timers
 pub timers-many : (vs : List Value) → 4 < length vs → timers_from (items_view vs) ≡ None
 unfolding timers_from
 timers-many [] h = absurd (omega (arith, h))

@@ -94,6 +94,7 @@ fitting-cut width bits h front cut none =
     (fitting-narrow width (take (length bits - width) bits) (drop (length bits - width) bits) long
     (subst AreZero cut none))
 
+-- bits don't fit in `width` bits, where one of those in front of their last `width` is 1
 pub fitting-none : (width : ℕ) (bits : List Bool) → width < length bits → (front : List Bool)
     → front ≡ take (length bits - width) bits
     → ¬ AreZero front → fitting width (bits_value bits) ≡ None
@@ -138,6 +139,7 @@ pub first_digits-done : (now : List ℕ) (rest bits : List Bool) → length rest
     → now ≡ first_digits (length bits / 4) bits
 first_digits-done now rest bits h e = rw (first_digits-none rest h, append-nil) at e
 
+-- there are as many digits as are asked for
 pub length-first_digits : (count : ℕ) (bits : List Bool) → length (first_digits count bits) ≡ count
 unfolding first_digits
 length-first_digits zero bits = refl

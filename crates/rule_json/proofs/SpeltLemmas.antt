@@ -232,6 +232,7 @@ edition-with-spelt (Some n) None all edition h = absurd (none-some edition h)
 edition-with-spelt (Some n) (Some r) all edition h =
     subst CanBeSpelt (same_Some _ edition h) (all r refl)
 
+-- an edition that is read can be spelt: its fields have texts, and its targets their lengths
 pub edition-spelt : (d : Data) (edition : RawEditionData) → edition_in d ≡ Some edition
     → CanBeSpelt edition
 unfolding edition_in
@@ -261,6 +262,7 @@ context-with-spelt (Some m) (Some d) None all context h = absurd (none-some cont
 context-with-spelt (Some m) (Some d) (Some e) all context h =
     subst (λ c. AllByRecursion CanBeSpelt c.editions) (same_Some _ context h) (all e refl)
 
+-- each edition of a context that is read can be spelt
 pub context-spelt : (d : Data) (context : ContextData) → context_in d ≡ Some context
     → AllByRecursion CanBeSpelt context.editions
 unfolding context_in editions_in
@@ -292,6 +294,7 @@ work-with-spelt (Some e) (Some v) (Some a) (Some w) None all work h = absurd (no
 work-with-spelt (Some e) (Some v) (Some a) (Some w) (Some p) all work h =
     subst (λ c. AllByRecursion CanBeSpelt c.editions) (same_Some _ work h) (all e refl)
 
+-- each edition of work that is read can be spelt
 pub work-spelt : (d : Data) (work : WorkData) → work_in d ≡ Some work
     → AllByRecursion CanBeSpelt work.editions
 unfolding work_in

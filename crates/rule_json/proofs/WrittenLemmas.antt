@@ -54,6 +54,7 @@ pub each-again : {A : Type 0} (read : Data → Option A) (write : A → Data) (x
 each-again read write [] all = refl
 each-again read write (x ∷ xs) all = rw (all.0, each-again read write xs all.1)
 
+-- a JSON list is read again, where each of its first `i` items is, and it has no more
 pub list-again : {A : Type 0} (read : Data → Option A) (write : A → Data) (xs : List A) (i : ℕ)
     → length xs ≤ i
     → AllByRecursion (λ x. read (write x) ≡ Some x) (take i xs)
@@ -275,12 +276,14 @@ entry-again e spelt position length bits =
 
 -- ---- rules and editions
 
+-- a rule with a RuleID below 2 ^ 16 is read again, where its entries are
 pub rule-again : (raw : RawRule) → raw.rule.id < 2 ^ 16
     → list_of entry_in (list_data entry_data raw.rule.entries) ≡ Some raw.rule.entries
     → rule_in (rule_data raw) ≡ Some raw
 unfolding rule_in rule_data live_in
 rule-again raw id entries = rw (number_below-again (2 ^ 16) raw.rule.id id, entries)
 
+-- an edition with a number below 2 ^ 32 is read again, where its rules are
 pub edition-again : (edition : RawEditionData) → edition.number < 2 ^ 32
     → list_of rule_in (list_data rule_data edition.rules) ≡ Some edition.rules
     → edition_in (edition_data edition) ≡ Some edition
@@ -382,6 +385,7 @@ edition-float edition = rw (float-each rule_data rule-float edition.rules)
 
 -- ---- under a result
 
+-- where an entry was written that can be spelt, with its numbers in range, it is read again
 pub entry-if : {T F : Type 0} (result : Result T F) (e : EntryData) (o : Option ℕ)
     → EntryCanBeSpelt e → e.position < 2 ^ 16 → o ≡ msb_bits e.operator
     → IfSome o (λ bits. bits < 2 ^ 16)
@@ -393,12 +397,14 @@ entry-if (Ok value) e o spelt position same small length =
 
 -- ---- the text
 
+-- bytes that are the compact text of an edition's JSON value, without floats, are its text
 pub text-written : (edition : RawEditionData) (d : Data) (bytes : List ℕ) → d ≡ edition_data edition
     → (has_float d ≡ false → bytes ≡ compact_text d) → bytes ≡ edition_text edition
 unfolding edition_text
 text-written edition d bytes same text =
     text (ap has_float same ∙ edition-float edition) ∙ ap compact_text same
 
+-- UTF-8 that is read as an edition's JSON value means that edition, where its value is read again
 pub text-again : (edition : RawEditionData) (d : Data) (bytes : List ℕ) → d ≡ edition_data edition
     → IsUtf8 bytes
     → (depth d ≤ max_depth → read bytes ≡ Some d) → edition_in (edition_data edition) ≡ Some edition

@@ -104,6 +104,7 @@ order_along [] h = tt
 order_along (e ∷ entries) h =
     (h 0 e (omega arith), order_along entries (λ k d l. h (suc k) d (omega arith)))
 
+-- in an admitted rule no token's entry stands before a token length entry used with it
 pub InOrder-from_IsAdmitted : (rule : RuleData) → IsAdmitted rule → InOrder rule.entries
 InOrder-from_IsAdmitted rule admitted =
     order_along rule.entries
@@ -130,6 +131,7 @@ apart_along (e ∷ entries) h =
       apart_along entries (λ k d l. (parts k d l).1),
     )
 
+-- in an admitted rule no entry repeats an earlier one
 pub AreApart-from_IsAdmitted : (rule : RuleData) → IsAdmitted rule → AreApart rule.entries
 AreApart-from_IsAdmitted rule admitted =
     apart_along rule.entries

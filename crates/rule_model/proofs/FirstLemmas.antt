@@ -5,6 +5,7 @@ use Rattle.std.proofs.Common.{refl, sym}
 use Rattle.std.proofs.lemmas.Bool.{false≢true}
 use Rattle.rule_model.specs.First.{first_held}
 
+-- where a condition of the first list holds, what comes behind the list changes nothing
 pub first_held-append_some : {A : Type 0} (these those : List (Bool × A)) (found : A)
     → first_held these ≡ Some found → first_held (these ++ those) ≡ Some found
 first_held-append_some [] those found e = absurd (cc)
@@ -12,6 +13,7 @@ first_held-append_some ((true, x) ∷ these) those found e = e
 first_held-append_some ((false, x) ∷ these) those found e =
     first_held-append_some these those found e
 
+-- where no condition of the first list holds, the answer is that of the second
 pub first_held-append_none : {A : Type 0} (these those : List (Bool × A)) → first_held these ≡ None
     → first_held (these ++ those) ≡ first_held those
 first_held-append_none [] those e = refl

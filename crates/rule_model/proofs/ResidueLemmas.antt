@@ -102,6 +102,7 @@ same_bits-true (true ∷ xs) (false ∷ ys) h = absurd cc
 same_bits-true (false ∷ xs) (true ∷ ys) h = absurd cc
 same_bits-true (false ∷ xs) (false ∷ ys) h = ap (λ zs. false ∷ zs) (same_bits-true xs ys h)
 
+-- each list of bits passes the test with itself
 pub same_bits-itself : (xs : List Bool) → same_bits xs xs ≡ true
 same_bits-itself [] = refl
 same_bits-itself (true ∷ xs) = same_bits-itself xs
@@ -144,6 +145,7 @@ size_code-twelve size h k =
     ∙ sym (number_bits-append 4 8 (3840 + size)
     ∙ rw (high, ← number_bits-mod 8 (3840 + size), low))
 
+-- a size from 255 to 65,535, its twelve ones and two bytes as one number of 28 bits
 pub size_code-twenty_eight : (size : ℕ) → 255 ≤ size → size ≤ 65535
     → size_code size ≡ number_bits 28 (268369920 + size)
 unfolding number_bits

@@ -42,6 +42,7 @@ pub Contains-rest : {X : Type 0} → (y : X) (xs : List X) (x : X) → Contains 
     → Contains (y ∷ xs) x
 Contains-rest y xs x h = (suc h.0, omega (arith, h.1), h.2)
 
+-- the first element is one of the whole
 pub Contains-first : {X : Type 0} → (x : X) (xs : List X) → Contains (x ∷ xs) x
 Contains-first x xs = (0, omega arith, refl)
 

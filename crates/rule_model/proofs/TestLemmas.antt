@@ -40,6 +40,7 @@ same_bits-from xs ys e = subst (λ ys. same_bits xs ys ≡ true) e (same_bits-it
 same_field-from : (a b : FieldAt) → a ≡ b → same_field a b ≡ true
 same_field-from a b e = subst (λ b. same_field a b ≡ true) e (same_field-itself a)
 
+-- where the test of a matching operator passes, the operator holds of the value
 pub operator_holds-true : (operator : Operator) (targets : List (List Bool)) (value : List Bool)
     → operator_holds operator targets value ≡ true → OperatorHolds operator targets value
 operator_holds-true Equal [] value h = absurd (cc)
@@ -60,6 +61,7 @@ operator_holds-true MatchMapping targets value h =
     let same : some.1 ≡ value = same_bits-true some.1 value some.4 in
     subst (Contains targets) same (some.0, some.2, some.3)
 
+-- a matching operator that holds of the value passes the test
 pub operator_holds-from : (operator : Operator) (targets : List (List Bool)) (value : List Bool)
     → OperatorHolds operator targets value → operator_holds operator targets value ≡ true
 operator_holds-from Equal [] value h = absurd (cc)
@@ -129,6 +131,7 @@ agrees-true iids computed e value h =
       restored_holds = (restored-tested iids computed e.name e.action value).0 last.1;
     }
 
+-- an entry that agrees with the value of its field passes the test
 pub agrees-from : (iids : Iids) (computed : Computed) (e : EntryData) (value : List Bool)
     → Agrees iids computed e value → agrees iids computed e value ≡ true
 agrees-from iids computed e value h =

@@ -25,6 +25,7 @@ unfolding number_bits
 number_bits-done now old zero count number h e = rw append-nil at e
 number_bits-done now old (suc left) count number h e = absurd (omega arith)
 
+-- a number written in `count` bits takes `count` bits
 pub length-number_bits : (count number : ℕ) → length (number_bits count number) ≡ count
 unfolding number_bits
 length-number_bits zero number = refl
@@ -56,6 +57,7 @@ number_bits-mod_more (suc count) more number =
     let e : more + suc count ≡ suc more + count = omega arith in
     rw (e, low_bit number more count, number_bits-mod_more count (suc more) number)
 
+-- in `count` bits a number is written as its remainder by 2 ^ `count` is
 pub number_bits-mod : (count number : ℕ)
     → number_bits count (number % 2 ^ count) ≡ number_bits count number
 number_bits-mod count number =
@@ -89,6 +91,7 @@ pub bits_value-number_bits : (count number : ℕ) → number < 2 ^ count
     → bits_value (number_bits count number) ≡ number
 bits_value-number_bits count number h = bits_value-number_bits_mod count number ∙ mod-eq_of_lt h
 
+-- the number that bits write is below 2 to the power of how many they are
 pub bits_value-below : (bits : List Bool) → bits_value bits < 2 ^ length bits
 bits_value-below [] = omega arith
 bits_value-below (true ∷ bits) = rw (pow-suc 2 (length bits)) (omega (arith, bits_value-below bits))
@@ -131,6 +134,7 @@ high_bit : (bit : Bool) (a b v w : ℕ)
 high_bit true a b v w = omega arith
 high_bit false a b v w = omega arith
 
+-- high bits with low ones behind them write the high number, moved up, plus the low one
 pub bits_value-append : (high low : List Bool)
     → bits_value (high ++ low) ≡ bits_value high * 2 ^ length low + bits_value low
 bits_value-append [] low = omega arith
@@ -144,15 +148,18 @@ pub bits_value-push : (bits : List Bool) (bit : Bool)
 bits_value-push bits true = omega (arith, bits_value-append bits (true ∷ []))
 bits_value-push bits false = omega (arith, bits_value-append bits (false ∷ []))
 
+-- zero bits write 0, however many they are
 pub bits_value-replicate_false : (count : ℕ) → bits_value (replicate count false) ≡ 0
 bits_value-replicate_false zero = refl
 bits_value-replicate_false (suc count) = omega (arith, bits_value-replicate_false count)
 
+-- 0 is written in zero bits alone
 pub number_bits-zero : (count : ℕ) → number_bits count 0 ≡ replicate count false
 unfolding number_bits
 number_bits-zero zero = refl
 number_bits-zero (suc count) = rw (zero-div (2 ^ count), number_bits-zero count)
 
+-- a bit as a byte is 0 or 1
 pub bool_byte-below : (bit : Bool) → bool_byte bit ≤ 1
 bool_byte-below true = omega arith
 bool_byte-below false = omega arith
@@ -181,6 +188,7 @@ pub number_bits-injective : (count first second : ℕ) → first < 2 ^ count →
 number_bits-injective count first second h k e = sym (bits_value-number_bits count first h)
     ∙ ap bits_value e ∙ bits_value-number_bits count second k
 
+-- the first `high` bits of a number write it without its `low` lowest bits
 pub take-number_bits : (high low number : ℕ)
     → take high (number_bits (high + low) number) ≡ number_bits high (number / 2 ^ low)
 take-number_bits high low number =
@@ -188,6 +196,7 @@ take-number_bits high low number =
     (take_at (number_bits high (number / 2 ^ low)) (number_bits low number) high
     (length-number_bits high (number / 2 ^ low)))
 
+-- behind the first `high` bits of a number stand its `low` lowest bits
 pub drop-number_bits : (high low number : ℕ)
     → drop high (number_bits (high + low) number) ≡ number_bits low number
 drop-number_bits high low number =

@@ -21,28 +21,34 @@ pub AreBytes-from_each : (bytes : List ℕ) → ((k : ℕ) → get_or bytes k 0 
 AreBytes-from_each [] h = tt
 AreBytes-from_each (byte ∷ bytes) h = (h 0, AreBytes-from_each bytes (λ k. h (suc k)))
 
+-- where two lists are of bytes, the one behind the other is too
 pub AreBytes-append : (front back : List ℕ) → AreBytes front → AreBytes back
     → AreBytes (front ++ back)
 AreBytes-append front back first second = all-append (λ byte. byte < 256) front back first second
 
+-- the first ones of a list of bytes are bytes
 pub AreBytes-take : (count : ℕ) (bytes : List ℕ) → AreBytes bytes → AreBytes (take count bytes)
 AreBytes-take count bytes h = all-take (λ byte. byte < 256) count bytes h
 
+-- what is left of a list of bytes behind the first ones is bytes
 pub AreBytes-drop : (count : ℕ) (bytes : List ℕ) → AreBytes bytes → AreBytes (drop count bytes)
 AreBytes-drop count bytes h = all-drop (λ byte. byte < 256) count bytes h
 
+-- bytes have eight bits each
 pub length-octets : (bytes : List ℕ) → length (octets bytes) ≡ 8 * length bytes
 length-octets [] = refl
 length-octets (byte ∷ bytes) =
     rw (length-append (number_bits 8 byte) (octets bytes), length-number_bits 8 byte)
     (omega (arith, length-octets bytes))
 
+-- the bits of bytes with more bytes behind them are the bits of those, then of these
 pub octets-append : (front back : List ℕ) → octets (front ++ back) ≡ octets front ++ octets back
 octets-append [] back = refl
 octets-append (byte ∷ front) back =
     rw (octets-append front back)
     (sym (append_assoc (number_bits 8 byte) (octets front) (octets back)))
 
+-- the first 8 * `count` bits of bytes are the bits of the first `count` bytes
 pub take-octets : (count : ℕ) (bytes : List ℕ)
     → take (8 * count) (octets bytes) ≡ octets (take count bytes)
 take-octets zero bytes = refl
@@ -52,6 +58,7 @@ take-octets (suc count) (byte ∷ bytes) =
     omega (arith, length-number_bits 8 byte) in
     rw (e, take-append-add (number_bits 8 byte) (octets bytes) (8 * count), take-octets count bytes)
 
+-- behind the first 8 * `count` bits of bytes stand the bits of the bytes behind the first `count`
 pub drop-octets : (count : ℕ) (bytes : List ℕ)
     → drop (8 * count) (octets bytes) ≡ octets (drop count bytes)
 drop-octets zero bytes = refl
@@ -83,6 +90,7 @@ bytes_of-more bits h =
     ap bytes_of (sym (take-append-drop 8 bits))
     ∙ bytes_of-byte (take 8 bits) (drop 8 bits) (length-take-le 8 bits h)
 
+-- the bits of bytes are read as those bytes, and then come the whole bytes of the bits behind
 pub bytes_of-octets-append : (bytes : List ℕ) (rest : List Bool) → AreBytes bytes
     → bytes_of (octets bytes ++ rest) ≡ bytes ++ bytes_of rest
 bytes_of-octets-append [] rest h = refl
@@ -126,6 +134,7 @@ pub octets-bytes_of-take : (bits : List Bool)
 unfolding bytes_of
 octets-bytes_of-take bits = octets-first_bytes (length bits / 8) bits (omega arith)
 
+-- bits that make whole bytes come back from these bytes
 pub octets-bytes_of : (bits : List Bool) → length bits % 8 ≡ 0 → octets (bytes_of bits) ≡ bits
 octets-bytes_of bits h = octets-bytes_of-take bits
     ∙ take_all (8 * (length bits / 8)) bits (omega arith)
@@ -150,6 +159,7 @@ AreBytes-first_bytes (suc count) bits = (
       (drop 8 bits),
 )
 
+-- the whole bytes of any bits are below 256 each
 pub AreBytes-bytes_of : (bits : List Bool) → AreBytes (bytes_of bits)
 unfolding bytes_of
 AreBytes-bytes_of bits = AreBytes-first_bytes (length bits / 8) bits
@@ -159,15 +169,18 @@ unfolding first_bytes
 length-first_bytes zero bits = refl
 length-first_bytes (suc count) bits = ap suc (length-first_bytes count (drop 8 bits))
 
+-- bits have an eighth as many whole bytes, rounded down
 pub length-bytes_of : (bits : List Bool) → length (bytes_of bits) ≡ length bits / 8
 unfolding bytes_of
 length-bytes_of bits = length-first_bytes (length bits / 8) bits
 
+-- padding puts zero bits behind the bits, as many as are missing to whole bytes: seven at most
 pub padded-is : (bits : List Bool)
     → padded bits ≡ bits ++ replicate ((8 - length bits % 8) % 8) false
 unfolding padded
 padded-is bits = refl
 
+-- padded bits are as long as the fewest whole bytes that have room for the bits
 pub length-padded : (bits : List Bool) → length (padded bits) ≡ 8 * ((length bits + 7) / 8)
 length-padded bits =
     rw (
@@ -189,6 +202,7 @@ padded-octets bytes = padded-whole (octets bytes) (omega (arith, length-octets b
 pub take-padded : (bits : List Bool) → take (length bits) (padded bits) ≡ bits
 take-padded bits = rw (padded-is bits) (take_at bits _ (length bits) refl)
 
+-- padded bits come back from their bytes: none is left out
 pub octets-bytes_of-padded : (bits : List Bool) → octets (bytes_of (padded bits)) ≡ padded bits
 octets-bytes_of-padded bits = octets-bytes_of (padded bits) (omega (arith, length-padded bits))
 

@@ -13,6 +13,7 @@ use Rattle.schc_bits.proofs.NumberBits.{number_bits-bits_value, number_bits-zero
 use Rattle.schc_bits.proofs.NumberBits.{bits_value-replicate_false}
 use Rattle.schc_bits.proofs.WordBits.{length-words_bits}
 
+-- a part of `count` bits that ends within the words has `count` bits
 pub length-part : (words : List ℕ) (from count : ℕ) → from + count ≤ 64 * length words
     → length (take count (drop from (words_bits words))) ≡ count
 length-part words from count h =
@@ -28,6 +29,7 @@ piece-front bits all at count h =
     ∙ ap (λ rest. take count rest) (drop-take at (all - at) bits)
     ∙ take-take count (all - at) (drop at bits) (omega arith)
 
+-- a part without its first `count` bits is what begins `count` bits later and ends where it ends
 pub after-part : {X : Type 0} (bits : List X) (from all count : ℕ) → count ≤ all
     → take (all - count) (drop (from + count) bits) ≡ drop count (take all (drop from bits))
 after-part bits from all count h =
@@ -36,17 +38,20 @@ after-part bits from all count h =
     ∙ sym (drop-take count (all - count) (drop from bits))
     ∙ ap (λ n. drop count (take n (drop from bits))) sum
 
+-- a piece within a part stands among all bits as far behind the part's begin as it does in the part
 pub read-part : {X : Type 0} (bits : List X) (from all at count : ℕ) → at + count ≤ all
     → take count (drop (from + at) bits) ≡ take count (drop at (take all (drop from bits)))
 read-part bits from all at count h =
     ap (λ rest. take count rest) (sym (drop-drop at from bits))
     ∙ sym (piece-front (drop from bits) all at count h)
 
+-- a piece of `count` items that ends within the list has `count` items
 pub length-piece : {X : Type 0} (bits : List X) (at count : ℕ) → at + count ≤ length bits
     → length (take count (drop at bits)) ≡ count
 length-piece bits at count h =
     length-take-le count (drop at bits) (rw (length-drop at bits) (omega arith))
 
+-- the number that the first `count` bits write is below 2 ^ `count`
 pub bits_value-take : (count : ℕ) (bits : List Bool) → bits_value (take count bits) < 2 ^ count
 bits_value-take count bits =
     let most : 2 ^ length (take count bits) ≤ 2 ^ count =
@@ -90,6 +95,7 @@ bits_value-zero : (bits : List Bool) → bits_value bits ≡ 0 → bits ≡ repl
 bits_value-zero bits e = sym (number_bits-bits_value bits) ∙ ap (λ n. number_bits (length bits) n) e
     ∙ number_bits-zero (length bits)
 
+-- where the first bits are zero and the piece behind them writes 0, all are zero up to its end
 pub zero-more : (bits : List Bool) (at step : ℕ) → at + step ≤ length bits
     → take at bits ≡ replicate at false → bits_value (take step (drop at bits)) ≡ 0
     → take (at + step) bits ≡ replicate (at + step) false
@@ -99,6 +105,7 @@ zero-more bits at step h e v =
     ∙ ap (λ n. replicate n false) (length-piece bits at step h) in
     rw (take-add at step bits, e, piece) (replicate-append-replicate at step false)
 
+-- where a piece of the bits doesn't write 0, the bits aren't all zero
 pub nonzero-more : (bits : List Bool) (at step : ℕ) → at + step ≤ length bits
     → (bits_value (take step (drop at bits)) ≡ 0 → ⊥) → bits ≡ replicate (length bits) false → ⊥
 nonzero-more bits at step h differ e =

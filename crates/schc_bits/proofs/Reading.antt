@@ -9,20 +9,24 @@ use Rattle.schc_bits.specs.Bits.{number_bits, bits_value, bits_at, number_at}
 use Rattle.schc_bits.proofs.NumberBits.{length-number_bits, bits_value-number_bits}
 use Rattle.schc_bits.proofs.NumberBits.{bits_value-below, number_bits-bits_value}
 
+-- where `count` bits are there, they are taken, and the bits behind them are left
 pub bits_at-enough : (count : ℕ) (bits : List Bool) → count ≤ length bits
     → bits_at count bits ≡ Some (take count bits, drop count bits)
 unfolding bits_at
 bits_at-enough count bits h = rw (le-leb count (length bits) h)
 
+-- where fewer than `count` bits are there, none is taken
 pub bits_at-short : (count : ℕ) (bits : List Bool) → length bits < count → bits_at count bits ≡ None
 unfolding bits_at
 bits_at-short count bits h = rw (lt-leb count (length bits) h)
 
+-- where `count` bits are there, the number that they write is read, and the bits behind are left
 pub number_at-enough : (count : ℕ) (bits : List Bool) → count ≤ length bits
     → number_at count bits ≡ Some (bits_value (take count bits), drop count bits)
 unfolding number_at
 number_at-enough count bits h = rw (le-leb count (length bits) h)
 
+-- where fewer than `count` bits are there, no number is read
 pub number_at-short : (count : ℕ) (bits : List Bool) → length bits < count
     → number_at count bits ≡ None
 unfolding number_at

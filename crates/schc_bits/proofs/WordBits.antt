@@ -17,6 +17,7 @@ use Rattle.schc_bits.proofs.NumberBits.{number_bits-zero, bits_value-number_bits
 use Rattle.schc_bits.proofs.NumberBits.{bits_value-number_bits_mod, bits_value-replicate_false}
 use Rattle.schc_bits.proofs.NumberBits.{take-number_bits, drop-number_bits}
 
+-- words have 64 bits each
 pub length-words_bits : (words : List ℕ) → length (words_bits words) ≡ 64 * length words
 unfolding words_bits
 length-words_bits [] = refl
@@ -75,12 +76,14 @@ filled-is words count zeros f h =
 pub filled-enough : (words : List ℕ) (count : ℕ) → IsFilled words count → count ≤ 64 * length words
 filled-enough words count f = let least = f.least in omega (arith, least)
 
+-- the bits that filled words hold are as many as is said of them
 pub length-held : (words : List ℕ) (count : ℕ) → IsFilled words count
     → length (take count (words_bits words)) ≡ count
 length-held words count f =
     length-take-le count (words_bits words)
     (rw (length-words_bits words) (filled-enough words count f))
 
+-- an empty list of words holds 0 bits
 pub filled-none : (words : List ℕ) → words ≡ [] → IsFilled words 0
 unfolding words_bits
 filled-none words e = rw e (record { least = refl; clear = refl })
@@ -226,6 +229,7 @@ put-fresh words bits filled value count zeros e l some h =
     holds-from (words ++ word ∷ []) (bits ++ number_bits count value) (filled + count) zeros width
     (omega arith) after
 
+-- behind full words, `count` more bits are held by a new word that has them highest
 pub put-new : (words : List ℕ) (filled value count : ℕ) → IsFilled words filled → filled % 64 ≡ 0
     → 1 ≤ count → count ≤ 64
     → Holds (words ++ value * 2 ^ (64 - count) % 2 ^ 64 ∷ [])
@@ -238,6 +242,7 @@ put-new words filled value count f whole some most =
     put-fresh words (take filled (words_bits words)) filled value count (64 - count) before
     (length-held words filled f) some (omega arith)
 
+-- where the last word has room for all `count` bits, they are held once it has them behind its own
 pub put-within : (words : List ℕ) (filled value count room : ℕ) → IsFilled words filled
     → 0 < filled % 64 → filled % 64 + room ≡ 64 → count ≤ room → value < 2 ^ count
     → Holds (set words (filled / 64)
@@ -297,6 +302,8 @@ get_or-front [] more i h = absurd (omega arith)
 get_or-front (x ∷ words) more zero h = refl
 get_or-front (x ∷ words) more (suc i) h = get_or-front words more i (omega arith)
 
+-- where the last word has room for the first of the bits only, all are held once it has those, and
+-- a new word the others, highest in it
 pub put-across : (words : List ℕ) (filled value count room over : ℕ) → IsFilled words filled
     → 0 < filled % 64 → filled % 64 + room ≡ 64 → count ≡ room + over → 0 < over → count ≤ 64
     → value < 2 ^ count
@@ -378,6 +385,7 @@ from_word words from i used e h place =
     (omega (arith, length-number_bits 64 word))
     ∙ ap (λ bits. bits ++ words_bits rest) back
 
+-- bits that lie within one word are the first bits of that word, moved up to where they begin
 pub top-within : (words : List ℕ) (from count : ℕ) → from % 64 + count ≤ 64 → 1 ≤ count
     → from + count ≤ 64 * length words
     → take count (number_bits 64 (get_or words (from / 64) 0 * 2 ^ (from % 64) % 2 ^ 64)) ≡ take
@@ -394,6 +402,8 @@ top-within words from count within some h =
     ∙ ap (λ bits. take count bits)
     (sym (from_word words from (from / 64) used (omega arith) (omega arith) (omega arith)))
 
+-- bits that lie in two words are the first bits of the one, moved up to where they begin, with the
+-- other moved down behind them
 pub top-across : (words : List ℕ) (from count : ℕ) → 64 < from % 64 + count → count ≤ 64
     → from + count ≤ 64 * length words → get_or words (from / 64 + 1) 0 < 2 ^ 64
     → take count
@@ -489,6 +499,7 @@ words_bits-take words n h =
     sym (ap (λ bits. take (64 * n) bits) all
     ∙ take_at (words_bits (take n words)) (words_bits (drop n words)) (64 * n) width)
 
+-- where the first `count` bits are those of whole words, these words alone hold them
 pub cut-whole : (words : List ℕ) (count n : ℕ) → count ≤ 64 * length words → count ≡ 64 * n
     → Holds (take n words) (take count (words_bits words)) count
 cut-whole words count n h e =
@@ -499,6 +510,7 @@ cut-whole words count n h e =
     holds-from (take n words) (take count (words_bits words)) count 0 width (omega arith)
     (front ∙ sym (append-nil (take count (words_bits words))))
 
+-- where the first `count` bits end within a word, the words up to it hold them, its rest made zero
 pub cut-within : (words : List ℕ) (count n room : ℕ) → count ≤ 64 * length words → 0 < count % 64
     → n ≡ count / 64 + 1 → count % 64 + room ≡ 64
     → Holds (set (take n words) (count / 64)

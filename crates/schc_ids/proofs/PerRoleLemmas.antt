@@ -9,6 +9,7 @@ use Rattle.schc_ids.specs.Ends.{other_role, other_direction}
 use Rattle.schc_ids.specs.PerRole.{PerRole, at_role, put_role}
 use Rattle.schc_ids.specs.PerDirection.{PerDirection, at_direction, put_direction}
 
+-- what is put for an end is found there
 pub at_role-put_role : {A : Type 0} (both : PerRole A) (role : Role) (one : A)
     → at_role (put_role both role one) role ≡ one
 at_role-put_role both Device one = refl
@@ -19,6 +20,7 @@ pub at_role-put_role-other : {A : Type 0} (both : PerRole A) (role : Role) (one 
 at_role-put_role-other both Device one = refl
 at_role-put_role-other both Gateway one = refl
 
+-- what is put for a direction is found there
 pub at_direction-put_direction : {A : Type 0} (both : PerDirection A) (direction : Direction)
     (one : A) → at_direction (put_direction both direction one) direction ≡ one
 at_direction-put_direction both way.Up one = refl

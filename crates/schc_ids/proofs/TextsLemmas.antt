@@ -28,6 +28,7 @@ mapped : (text : List ℕ) (o : Option (List ℕ))
 mapped text None h = absurd (false≢true h)
 mapped text (Some its) h = ap Some ((bytes_eq-Decides its text).0 h)
 
+-- the field name that is found for a text has that text
 pub text_of-name_of_text : (text : List ℕ) (name : FieldName) → name_of_text text ≡ Some name
     → text_of name ≡ Some text
 unfolding name_of_text

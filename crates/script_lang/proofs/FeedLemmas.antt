@@ -20,6 +20,7 @@ use Rattle.script_lang.specs.Text.{is_line_feed}
 abbrev pub NoFeed : List ℕ → Type 0
 NoFeed text = AllByRecursion (λ b. is_line_feed b ≡ false) text
 
+-- two texts without a line feed, one behind the other, have none
 pub both : (xs ys : List ℕ) → NoFeed xs → NoFeed ys → NoFeed (xs ++ ys)
 both xs ys first second = all-append (λ b. is_line_feed b ≡ false) xs ys first second
 
@@ -30,6 +31,7 @@ looked-at : (b : ℕ) (text : List ℕ) (feed : Bool) → is_line_feed b ≡ fee
 looked-at b text true s h rest = absurd (cc)
 looked-at b text false s h rest = (s, rest h)
 
+-- a text in which the test finds no line feed has none
 pub literal : (text : List ℕ) → list_any is_line_feed text ≡ false → NoFeed text
 literal [] h = tt
 literal (b ∷ text) h = looked-at b text (is_line_feed b) refl h (literal text)
@@ -60,6 +62,7 @@ onto-clean (suc k) n acc h =
     (glyph-clean (n % 10), h) (λ _. onto-clean k (n / 10) (digit_glyph false (n % 10) ∷ acc)
     (glyph-clean (n % 10), h))
 
+-- a number in decimal has no line feed
 pub decimal-clean : (n : ℕ) → NoFeed (decimal n)
 unfolding digits
 decimal-clean n = onto-clean 64 n [] tt
@@ -144,6 +147,7 @@ hex-at b true s h = absurd (let h10 : is_hex_digit 10 ≡ true = subst (λ n. is
     (eqb-true b 10 s) h in cc)
 hex-at b false s h = refl
 
+-- a word of hex digits has no line feed
 pub hex-clean : (word : List ℕ) → AllPass is_hex_digit word → NoFeed word
 hex-clean [] passes = tt
 hex-clean (b ∷ word) passes = (
@@ -154,6 +158,7 @@ hex-clean (b ∷ word) passes = (
 
 -- ---- all of a text, by index
 
+-- a text without a line feed has none at any index
 pub by-index : (text : List ℕ) → NoFeed text → All (λ b. is_line_feed b ≡ false) text
 by-index [] clean k d h = absurd (omega (arith, h))
 by-index (b ∷ text) clean zero d h = clean.0

@@ -39,13 +39,16 @@ neither : (a b : Bool) → a || b ≡ false → (a ≡ false) × (b ≡ false)
 neither true b h = absurd (cc)
 neither false b h = (refl, h)
 
+-- where two conditions are false, it is false that one of them holds
 pub none-of : (a b : Bool) → a ≡ false → b ≡ false → a || b ≡ false
 none-of a b first second = rw (first, second) refl
 
+-- where it holds that the first isn't so but the second is, the first is false and the second true
 pub not-both : (a b : Bool) → not a && b ≡ true → (a ≡ false) × (b ≡ true)
 not-both true b h = absurd (cc)
 not-both false b h = (refl, h)
 
+-- two numbers that differ differ the other way round too
 pub other-way : (m n : ℕ) → (m == n) ≡ false → (n == m) ≡ false
 other-way m n h = grind (arith, nat_tests)
 

@@ -60,6 +60,7 @@ looked-at : (b : ℕ) (word : List ℕ) (space : Bool) → is_space b ≡ space 
 looked-at b word true s h rest = absurd (cc)
 looked-at b word false s h rest = more-without b word s (rest h)
 
+-- a word in which the test finds no space has none
 pub without : (word : List ℕ) → has_space word ≡ false → HasNoSpace word
 without [] h = none-without
 without (b ∷ word) h = looked-at b word (is_space b) refl h (without word)
@@ -94,6 +95,7 @@ hex-at b true s h = absurd (let h32 : is_hex_digit 32 ≡ true = subst (λ n. is
     (eqb-true b 32 s) h in cc)
 hex-at b false s h = refl
 
+-- a word of hex digits has no space
 pub hex-without : (word : List ℕ) → AllPass is_hex_digit word → HasNoSpace word
 hex-without word passes = λ k d h. hex-at (slice_index_or word k d) _ refl (passes k d h)
 
@@ -124,6 +126,7 @@ number-again limit n below small =
     let within : nat_lt n limit ≡ true = grind (arith, nat_tests) in
     rw (numeral, value, within) refl
 
+-- a number below 2 ^ 64 in decimal has no space
 pub decimal-without : (n : ℕ) → n < 2 ^ 64 → HasNoSpace (decimal n)
 decimal-without n small = digits-without (decimal n) (digits_decimal digits_model n small)
 
@@ -155,10 +158,12 @@ direction-again way.Down = refl
 
 -- ---- lines
 
+-- what stands before the first space of a line is its first word; the rest has the others
 pub first-word : (word rest : List ℕ) → HasNoSpace word → words_of (word ++ 32 ∷ rest) ≡ word
     ∷ words_of rest
 first-word word rest h = slice_split_at is_space word 32 rest h refl
 
+-- a line without a space is one word
 pub last-word : (word : List ℕ) → HasNoSpace word → words_of word ≡ word ∷ []
 last-word word h = slice_split_none is_space word h
 
@@ -279,6 +284,7 @@ publish-again : (devices : List DeviceLine) (n : ℕ) (raw : RawEditionData) →
 unfolding told_by told_by_text spelled published_text publication
 publish-again devices n raw none again = rw (none, again) refl
 
+-- the line of each event that can be spelled where these devices are declared tells that event
 pub reads-back : ReadsBack
 reads-back devices n (Down role packet) can = hand-again devices n role packet can.0 can.1 can.2
 reads-back devices n (Slot role) can = slot-again devices n role can

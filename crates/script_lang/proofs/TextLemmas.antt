@@ -17,13 +17,16 @@ use Rattle.std.proofs.lemmas.Bool.{ltb-true}
 use Rattle.std.proofs.lemmas.Bool.Decides.{nat_tests}
 use Rattle.script_lang.specs.Text.{is_line_feed, without_empty_end, lines_of, is_numeral, number_of}
 
+-- ASCII digits with their decimal value are numerals as lemmas on parsing and printing take them
 pub digits_model : IsNumeralModel (λ ds. all_ascii_digits ds ≡ true) (digits_value 10)
 digits_model = numerals_by_value _ tells_all_ascii_digits
 
+-- the test of each byte for a digit is the test that the text is all digits
 pub list_all-all_ascii_digits : (ds : List ℕ) → list_all is_ascii_digit ds ≡ all_ascii_digits ds
 list_all-all_ascii_digits [] = refl
 list_all-all_ascii_digits (d ∷ ds) = ap (λ b. is_ascii_digit d && b) (list_all-all_ascii_digits ds)
 
+-- where two conditions hold together, the second holds
 pub and-right : (a b : Bool) → a && b ≡ true → b ≡ true
 and-right true b h = h
 and-right false b h = absurd (cc)
@@ -39,6 +42,7 @@ numeral_digits (d ∷ []) h = (and-last _ h, lit< tt)
 numeral_digits (d ∷ e ∷ ds) h =
     (sym (list_all-all_ascii_digits (d ∷ e ∷ ds)) ∙ and-right _ _ h, omega arith)
 
+-- a numeral is UTF-8
 pub IsUtf8-numeral : (word : List ℕ) → is_numeral word ≡ true → IsUtf8 word
 IsUtf8-numeral word h =
     IsUtf8-from_ascii word
@@ -60,6 +64,7 @@ parsed word (Ok x) h p l = ap Some p.1
     ∙ sym (number_is word true h (let below = p.0.1 in grind (arith, nat_tests)))
 parsed word (Err e) h p l = sym (number_is word false h (above _ _ (λ below. p (l, below))))
 
+-- a numeral is parsed as the number below 2 ^ 64 that it spells, or refused where it spells none
 pub parse-number_of : {E : Type 0} (word : List ℕ) (r : Result ℕ E) → is_numeral word ≡ true
     → ParsesUnsigned 64 10 word r → result_ok r ≡ number_of (2 ^ 64) word
 parse-number_of word r h p =

@@ -68,6 +68,7 @@ words-again word (next ∷ words) first rest = first-word word (spaced next word
 
 -- ---- the words of a device
 
+-- where each number of a list is a byte, so is what stands at each index
 pub is-bytes : (bytes : List ℕ) → AreBytes bytes → IsBytes bytes
 is-bytes [] small k = omega arith
 is-bytes (byte ∷ bytes) small zero = small.0
@@ -257,6 +258,7 @@ device-unpublished : (d : DeviceLine) → published_text (device_line d) ≡ Non
 unfolding device_line published_text
 device-unpublished d = refl
 
+-- the line of a device with parameters in range declares that device, where its number is new
 pub device-again : (devices : List DeviceLine) (d : DeviceLine) → IsParams d.params → HasNumbers d
     → is_declared devices d.number ≡ false → told_by devices (device_line d) ≡ Some (Declares d)
 unfolding told_by told_by_text told_by_words
@@ -295,6 +297,7 @@ options-clean params =
     (both (last_word params.last) _ (last-clean params.last)
     (both (codes " timers ") _ (literal (codes " timers ") refl) (ticks-clean params.ticks)))))))
 
+-- the line of a device has no line feed in it
 pub device-clean : (d : DeviceLine) → NoFeed (device_line d)
 unfolding device_line
 device-clean d =

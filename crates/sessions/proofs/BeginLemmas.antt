@@ -36,6 +36,7 @@ none-runs : (running : Option Running) (left : Option ℕ) → session_of runnin
 none-runs None left e = refl
 none-runs (Some running) left e = absurd cc
 
+-- an end that may begin a session has none, not even one that is quiet
 pub begin_none : (role : Role) (params : EndParams) (running : Option Running)
     (answering silent : Receiver) (next : ℕ) (clocks : ClocksData) (s : SessionsData)
     → seen role params running answering silent next clocks ≡ s → may_begin s ≡ true
@@ -50,6 +51,7 @@ begin_none role params running answering silent next clocks s v m =
     (sym (ap may_begin_in
     (found_own (out_key role params.acked) (session_of running clocks.sending))) ∙ was))
 
+-- an end that has no session has no timer armed for one
 pub none_left : (role : Role) (params : EndParams) (running : Option Running) (left : Option ℕ)
     → running ≡ None → AreRunning role params running left → left ≡ None
 none_left role params running left r h = subst (λ o. AreRunning role params o left) r h
@@ -60,16 +62,19 @@ pub record IsBegun (role : Role) (params : EndParams) (way : ℕ × FragParams) 
   pub way_is : way ≡ sending_of role params.acked
   pub begun : sender ≡ sender_begun way.1.mode way.1 params.mtu params.last bits
 
+-- the sender of a session that begins has the MTU of the end's parameters
 pub begun_mtu_is : (role : Role) (params : EndParams) (way : ℕ × FragParams) (bits : List Bool)
     (sender : Sender) → IsBegun role params way bits sender → sender_mtu sender ≡ params.mtu
 begun_mtu_is role params way bits sender h = ap sender_mtu h.begun
     ∙ begun_mtu way.1.mode way.1 params.mtu params.last bits
 
+-- the sender of a session that begins has the bits with which it begins
 pub begun_bits_is : (role : Role) (params : EndParams) (way : ℕ × FragParams) (bits : List Bool)
     (sender : Sender) → IsBegun role params way bits sender → sender_bits sender ≡ bits
 begun_bits_is role params way bits sender h = ap sender_bits h.begun
     ∙ begun_bits way.1.mode way.1 params.mtu params.last bits
 
+-- a session that begins, with no timer armed, is one of this end, whatever its number
 pub begun_runs : (role : Role) (params : EndParams) (way : ℕ × FragParams) (bits : List Bool)
     (number : ℕ) (sender : Sender) (left : Option ℕ) → IsBegun role params way bits sender
     → left ≡ None → IsRunning role params (record { number = number; sender = sender }) left
@@ -87,6 +92,7 @@ map-none : {A B : Type 0} (f : A → B) (o : Option A) → option_map f o ≡ No
 map-none f None e = refl
 map-none f (Some x) e = absurd cc
 
+-- a session that begins has its first message due, so that something is given
 pub has_message : (role : Role) (params : EndParams) (way : ℕ × FragParams) (bits : List Bool)
     (sender : Sender) (f : List ℕ → SessionOut) (out : Option SessionOut)
     → IsBegun role params way bits sender → out ≡ option_map f (sender_due sender) → out ≡ None → ⊥
@@ -120,6 +126,8 @@ put-none : (key : SessionKey) (running : Option Running) (left : Option ℕ) (ne
     → put_in key (Some new) (entry key (session_of running left)) ≡ entry key (Some new)
 put-none key running left new r = rw r (put_own key None (Some new))
 
+-- where no session runs, the one that begins has the number that is next, its first message is
+-- given, and the end keeps it as after that: receivers and their timers stay, the number goes up
 pub begin_is : (role : Role) (params : EndParams) (running : Option Running)
     (answering silent : Receiver) (next next' : ℕ) (clocks clocks' : ClocksData)
     (way : ℕ × FragParams) (bits : List Bool) (sender : Sender) (new : Running) (out : SessionOut)
@@ -157,10 +165,12 @@ begin_is role params running answering silent next next' clocks clocks' way bits
     (sym c)
     ∙ ap (λ y. (seen role params (Some new) answering silent y clocks', Some out)) (sym n)
 
+-- sessions of which the same is seen have senders of the same bits
 pub keeps_bits : (old new : Running) (left left' : Option ℕ) → shown new left' ≡ shown old left
     → sender_bits new.sender ≡ sender_bits old.sender
 keeps_bits old new left left' e = ap (λ x. sender_bits x.sender) e
 
+-- what is one more, but at most 2 ^ 64 - 1, is the number of the session after
 pub number_is : (number next : ℕ) → next ≡ min (number + 1) (2 ^ 64 - 1) → next ≡ next_number number
 unfolding next_number
 number_is number next e = e

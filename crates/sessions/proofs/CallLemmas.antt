@@ -56,6 +56,7 @@ use Rattle.sessions.proofs.PortLemmas.{found_in, put_answering, put_silent}
 
 -- The session is given up.
 
+-- an end that has no session is as before when it is told to abort, and reports nothing
 pub abort_none : (role : Role) (params : EndParams) (running : Option Running)
     (answering silent : Receiver) (next : ℕ) (clocks : ClocksData) → running ≡ None
     → abort_step
@@ -96,6 +97,7 @@ unfolding aborted_from
 abort-core role params session new answering silent next clocks left heard e =
     rw (e, put_own (out_key role params.acked) (Some session) (Some (shown new left))) refl
 
+-- to abort changes the session and its timer alone, with a report where the session fails by it
 pub abort_some : (role : Role) (params : EndParams) (running : Option Running) (old new : Running)
     (answering silent : Receiver) (next : ℕ) (clocks clocks' : ClocksData) (heard : Heard)
     (report : Option Report) → running ≡ Some old
@@ -142,6 +144,7 @@ unanswered-found : (role : Role) (acked : Bool) (session : Option Session) → a
 unanswered-found role acked session a =
     rw a (found_other (out_key role true) (out_key role false) session (own-other role))
 
+-- an answer to an end that sends without answers is a remnant, and changes nothing
 pub hear_unanswered : (role : Role) (params : EndParams) (running : Option Running)
     (answering silent : Receiver) (next : ℕ) (clocks : ClocksData) (message : Message)
     → params.acked ≡ false
@@ -160,6 +163,7 @@ answered-found : (role : Role) (acked : Bool) (session : Option Session) → ack
     → found (out_key role true) (entry (out_key role acked) session) ≡ session
 answered-found role acked session a = rw a (found_own (out_key role true) session)
 
+-- an answer to an end that has no session under way is a remnant, and changes nothing
 pub hear_none : (role : Role) (params : EndParams) (running : Option Running)
     (answering silent : Receiver) (next : ℕ) (clocks : ClocksData) (message : Message)
     → params.acked ≡ true → running ≡ None
@@ -208,6 +212,8 @@ unfolding answer_taken
 hear-core role params message session new answering silent next clocks left heard a e =
     rw (e, heard-put role params.acked (Some session) (Some (shown new left)) a) refl
 
+-- where an end that sends with answers has a session, an answer is a step of that and its timer
+-- alone, is noted as what it meant, and is reported where the session ends by it
 pub hear_some : (role : Role) (params : EndParams) (running : Option Running) (old new : Running)
     (answering silent : Receiver) (next : ℕ) (clocks clocks' : ClocksData) (message : Message)
     (heard : Heard) (meaning : Note) (report : Option Report) → params.acked ≡ true
@@ -311,6 +317,7 @@ receive-silent role params running answering silent new next clocks left message
           (record { receiver = new; left = left }),
     ) refl
 
+-- an answered fragment is taken by the receiver that answers, and changes that and its timer alone
 pub receive_answering : (role : Role) (params : EndParams) (running : Option Running)
     (answering silent new : Receiver) (next : ℕ) (clocks clocks' : ClocksData) (message : Message)
     (payload : List Bool) (meaning : Note) (acked : Bool) → acked ≡ true
@@ -335,6 +342,7 @@ receive_answering role params running answering silent new next clocks clocks' m
     message payload meaning e
     ∙ ap (λ x. (seen role params running new silent next x, meaning)) (sym o))
 
+-- a fragment without answers is taken by the silent receiver, and changes that and its timer alone
 pub receive_silent : (role : Role) (params : EndParams) (running : Option Running)
     (answering silent new : Receiver) (next : ℕ) (clocks clocks' : ClocksData) (message : Message)
     (payload : List Bool) (meaning : Note) (acked : Bool) → acked ≡ false
@@ -361,6 +369,7 @@ receive_silent role params running answering silent new next clocks clocks' mess
 
 -- A frame, as it is read.
 
+-- bytes that are read as a message of the other end do what it does to the receiver of their port
 pub fragment_ok : (s : SessionsData) (t : SessionsData × Note) (port : ℕ) (params : FragParams)
     (acked answered : Bool) (bytes : List ℕ) (message : Message) (read : Result Message WireFault)
     → sending_of (other_role s.role) acked ≡ (port, params) → answered ≡ acked
@@ -376,6 +385,7 @@ fragment_ok s t port params acked answered bytes message read w a r o e =
     (subst (λ key. fragment_taken s key message (payload_in message (octets bytes))
     (found key s.receivers) ≡ t) key e)
 
+-- bytes that are no fragment are refused with the fault of reading them, and change nothing
 pub fragment_err : (s : SessionsData) (port : ℕ) (params : FragParams) (bytes : List ℕ)
     (fault : WireFault) (read : Result Message WireFault)
     → read ≡ reading_in params.mode side.Fragments bytes → read ≡ Err fault
@@ -384,6 +394,7 @@ pub fragment_err : (s : SessionsData) (port : ℕ) (params : FragParams) (bytes 
 unfolding fragment_read
 fragment_err s port params bytes fault read r o = rw (sym r ∙ o) refl
 
+-- bytes that are read as an answer do what that answer does to the session of the key
 pub answer_ok : (s : SessionsData) (t : SessionsData × (Note × Option Report)) (key : SessionKey)
     (params : FragParams) (bytes : List ℕ) (message : Message) (read : Result Message WireFault)
     → read ≡ reading_in params.mode side.Answers bytes → read ≡ Ok message
@@ -392,6 +403,7 @@ pub answer_ok : (s : SessionsData) (t : SessionsData × (Note × Option Report))
 unfolding answer_read
 answer_ok s t key params bytes message read r o e = rw (sym r ∙ o) e
 
+-- bytes that are no answer are refused with the fault of reading them, without report or change
 pub answer_err : (s : SessionsData) (key : SessionKey) (params : FragParams) (bytes : List ℕ)
     (fault : WireFault) (read : Result Message WireFault)
     → read ≡ reading_in params.mode side.Answers bytes → read ≡ Err fault
@@ -400,6 +412,7 @@ pub answer_err : (s : SessionsData) (key : SessionKey) (params : FragParams) (by
 unfolding answer_read
 answer_err s key params bytes fault read r o = rw (sym r ∙ o) refl
 
+-- a frame by a port of fragments does what the fragment does, and reports no end of a session
 pub take_fragments : (s t : SessionsData) (port : ℕ) (params : FragParams) (bytes : List ℕ)
     (meaning : Note) (means : PortMeaning) → means ≡ meaning_of s.role port
     → means ≡ Fragments params
@@ -409,6 +422,7 @@ pub take_fragments : (s t : SessionsData) (port : ℕ) (params : FragParams) (by
 unfolding take_step take_from
 take_fragments s t port params bytes meaning means m f e = rw (sym m ∙ f, e) refl
 
+-- a frame by a port of answers does what the answer does to the session that goes by that port
 pub take_answers : (s : SessionsData) (t : SessionsData × (Note × Option Report)) (port : ℕ)
     (params : FragParams) (bytes : List ℕ) (means : PortMeaning) → means ≡ meaning_of s.role port
     → means ≡ Answers params → sending_of s.role true ≡ (port, params)
@@ -432,6 +446,7 @@ take-unknown : (s : SessionsData) (port : ℕ) (bytes : List ℕ) (means : PortM
 unfolding take_step take_from
 take-unknown s port bytes means m f = rw (sym m ∙ f) refl
 
+-- a frame by a port of whole packets, or by an unknown one, is refused and changes nothing
 pub take_neither : (s : SessionsData) (port : ℕ) (bytes : List ℕ) (means : PortMeaning)
     → means ≡ meaning_of s.role port → (means ≡ Whole) ⊎ (means ≡ Unknown)
     → take_step port bytes s ≡ (s, (note.Refused UnknownPort, None))
@@ -440,6 +455,7 @@ take_neither s port bytes means m (inr f) = take-unknown s port bytes means m f
 
 -- A preview.
 
+-- the preview of an answered fragment is that of the receiver that answers
 pub preview_answering : (role : Role) (params : EndParams) (running : Option Running)
     (answering silent : Receiver) (next : ℕ) (clocks : ClocksData) (s : SessionsData) (acked : Bool)
     (message : Message) (payload : List Bool)
@@ -456,6 +472,7 @@ preview_answering role params running answering silent next clocks s acked messa
           (record { receiver = silent; left = clocks.silent }),
     ) refl)
 
+-- the preview of a fragment without answers is that of the silent receiver
 pub preview_silent : (role : Role) (params : EndParams) (running : Option Running)
     (answering silent : Receiver) (next : ℕ) (clocks : ClocksData) (s : SessionsData) (acked : Bool)
     (message : Message) (payload : List Bool)
@@ -472,6 +489,7 @@ preview_silent role params running answering silent next clocks s acked message 
           (record { receiver = silent; left = clocks.silent }),
     ) refl)
 
+-- the preview of bytes that are read as a fragment is that of it at the receiver of the port
 pub preview_ok : (s : SessionsData) (port : ℕ) (params : FragParams) (acked answered : Bool)
     (bytes : List ℕ) (message : Message) (read : Result Message WireFault)
     → sending_of (other_role s.role) acked ≡ (port, params) → answered ≡ acked
@@ -487,6 +505,7 @@ preview_ok s port params acked answered bytes message read w a r o =
     (ap (λ key. fragment_previewed message (payload_in message (octets bytes))
     (found key s.receivers)) key)
 
+-- the preview of bytes that are no fragment gives no bits
 pub preview_err : (s : SessionsData) (port : ℕ) (params : FragParams) (bytes : List ℕ)
     (fault : WireFault) (read : Result Message WireFault)
     → read ≡ reading_in params.mode side.Fragments bytes → read ≡ Err fault
@@ -494,6 +513,7 @@ pub preview_err : (s : SessionsData) (port : ℕ) (params : FragParams) (bytes :
 unfolding read_previewed
 preview_err s port params bytes fault read r o = rw (sym r ∙ o) refl
 
+-- the preview of a frame by a port of fragments is that of the fragment as which it is read
 pub preview_fragments : (s : SessionsData) (port : ℕ) (params : FragParams) (bytes : List ℕ)
     (means : PortMeaning) → means ≡ meaning_of s.role port → means ≡ Fragments params
     → read_previewed s (port_key port) bytes
@@ -510,6 +530,7 @@ preview-from s key bytes (Answers params) h = refl
 preview-from s key bytes Whole h = refl
 preview-from s key bytes Unknown h = refl
 
+-- the preview of a frame gives no bits where no fragments come by its port
 pub preview_other : (s : SessionsData) (port : ℕ) (bytes : List ℕ) (means : PortMeaning)
     → means ≡ meaning_of s.role port → ((params : FragParams) → means ≡ Fragments params → ⊥)
     → None ≡ preview_of port bytes s

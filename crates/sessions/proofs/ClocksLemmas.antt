@@ -10,6 +10,7 @@ use Rattle.sessions.specs.declared.clocks.Clock.{Clock}
 use Rattle.sessions.specs.declared.clocks.Clock.TheVariants.{Sending, Answering, Silent}
 use Rattle.sessions.specs.declared.clocks.Due.{Due}
 
+-- to set the place of one timer in a list of three sets that timer, and leaves the two others
 pub set_clock_is : (timers : List (Option ℕ)) (clock : Clock) (left : Option ℕ) → length timers ≡ 3
     → clocks_of (slice_set timers (key_of clock) left) ≡ set_clock clock left (clocks_of timers)
 set_clock_is [] clock left h = absurd (omega (arith, h))
@@ -20,6 +21,7 @@ set_clock_is (a ∷ b ∷ c ∷ []) Answering left h = refl
 set_clock_is (a ∷ b ∷ c ∷ []) Silent left h = refl
 set_clock_is (a ∷ b ∷ c ∷ d ∷ xs) clock left h = absurd (omega (arith, h))
 
+-- a tick of a list of three timers is one of each of the end's timers
 pub tick_clocks : (timers : List (Option ℕ)) → length timers ≡ 3
     → clocks_of (tick_step timers) ≡ all_ticked (clocks_of timers)
 tick_clocks [] h = absurd (omega (arith, h))
@@ -36,6 +38,7 @@ due-three a b c false true z e f g = rw (e, f) refl
 due-three a b c false false true e f g = rw (e, f, g) refl
 due-three a b c false false false e f g = rw (e, f, g) refl
 
+-- the lowest key that is due in a list of three timers is that of the first timer that is due
 pub due_clock : (timers : List (Option ℕ)) → length timers ≡ 3
     → option_map clock_at (first_due timers) ≡ first_clock (clocks_of timers)
 due_clock [] h = absurd (omega (arith, h))
@@ -53,6 +56,7 @@ taken-three a b c false true z e f g = rw (e, f) refl
 taken-three a b c false false true e f g = rw (e, f, g) refl
 taken-three a b c false false false e f g = rw (e, f, g) refl
 
+-- to take the lowest key that is due out of a list of three disarms the first timer that is due
 pub taken_clock : (timers : List (Option ℕ)) → length timers ≡ 3
     → clocks_of (without timers (first_due timers)) ≡ without_clock (first_clock (clocks_of timers))
     (clocks_of timers)
@@ -140,5 +144,6 @@ pub leads_some : (clocks : ClocksData) (due : Due) (clock : Clock) → Some cloc
     → Leads clock clocks due
 leads_some clocks due clock e = subst (λ o. LeadsOn o clocks due) (sym e) (leads clocks due)
 
+-- where no timer is due, all stay as they are, and none is added to those that were due
 pub ends_none : (clocks : ClocksData) (due : Due) → None ≡ first_clock clocks → Ends clocks due
 ends_none clocks due e = subst (λ o. LeadsOn o clocks due) (sym e) (leads clocks due)

@@ -19,6 +19,7 @@ answer-to (NoAck s) params message e h = tt
 answer-to (AckAlways s) params message e h = tt
 answer-to (AckOnError s) params message e h = subst (λ p. IsAnswer p message) (sym e) h
 
+-- the session of an end that sends with answers can be asked what any answer to that end means
 pub has_answer : (role : Role) (params : EndParams) (running : Option Running) (session : Running)
     (left : Option ℕ) (message : Message) (other : Role) → params.acked ≡ true
     → running ≡ Some session → AreRunning role params running left → other ≡ role

@@ -94,6 +94,7 @@ from-alike s key bytes (Answers params) =
 from-alike s key bytes Whole = alike-none _ (λ e. cc)
 from-alike s key bytes Unknown = alike-none _ (λ e. cc)
 
+-- a preview gives bits exactly where the frame, when it is taken, is noted as joined
 pub preview_joins : PreviewJoins
 unfolding preview_of take_step
 preview_joins port bytes s = from-alike s (port_key port) bytes (meaning_of s.role port)

@@ -31,6 +31,7 @@ use Rattle.sessions.specs.declared.senders.Sender.{Sender}
 use Rattle.sessions.proofs.SenderLemmas.{GoesOn, sent_still, retried_goes, retried_leaves}
 use Rattle.sessions.proofs.StepLemmas.{left_timed}
 
+-- what is left of the timer follows from where the senders stand before and after the step
 pub left_is : (ticks : TimerTicks) (old new : Sender) (before after : SenderPhase) (left : Option ℕ)
     → before ≡ sender_phase old → after ≡ sender_phase new
     → sender_left ticks before after left ≡ sender_left ticks (sender_phase old) (sender_phase new)
@@ -65,6 +66,8 @@ pub given_after : (ticks : TimerTicks) (number : ℕ) (old new : Sender) (left l
 unfolding session_sent session_moved
 given_after ticks number old new left left' s l = rw (l, s) refl
 
+-- where these bytes are due, what is given is a frame of them by the port, with the report that the
+-- session makes as it sends
 pub given_is : (port : ℕ) (kind : EmitKind) (report : Option Report) (session : Session)
     (bytes : List ℕ) (due : Option (List ℕ)) → due ≡ Some bytes → report ≡ sent_report session
     → Some (record
@@ -72,6 +75,7 @@ pub given_is : (port : ℕ) (kind : EmitKind) (report : Option Report) (session 
     (λ bytes. given (port_key port) bytes kind (sent_report session)) due
 given_is port kind report session bytes due d r = rw (d, r) refl
 
+-- the report by where a sender stands before and after it gave its message is that of its session
 pub report_is : (number : ℕ) (old new : Sender) (left : Option ℕ) (before after : SenderPhase)
     (report : Option Report) → before ≡ sender_phase old → after ≡ sender_phase new
     → new ≡ sender_sent old → report ≡ reported number (sent_kind before after)
@@ -83,6 +87,7 @@ report_is number old new left before after report b a n r = rw (r, b, a, n) refl
 pub still_same : (old new : Sender) → new ≡ sender_sent old → sender_due old ≡ None → new ≡ old
 still_same old new n d = n ∙ sent_still old d
 
+-- where nothing is due, to give a message leaves the timer of the session as it was
 pub still_after : (ticks : TimerTicks) (number : ℕ) (old new : Sender) (left : Option ℕ)
     → new ≡ sender_sent old → sender_due old ≡ None
     → shown (record { number = number; sender = new }) left ≡ session_sent ticks
@@ -91,6 +96,7 @@ unfolding session_sent session_moved
 still_after ticks number old new left n d =
     rw (n, sent_still old d, same-left ticks (sender_phase old) left) refl
 
+-- where nothing is due, a session of the end is still one after giving, with the same timer
 pub still_keeps : (number : ℕ) (old new : Sender) (left : Option ℕ) → new ≡ sender_sent old
     → sender_due old ≡ None → (role : Role) (params : EndParams)
     → IsRunning role params (record { number = number; sender = old }) left
@@ -131,6 +137,8 @@ row-of : (role : Role) (params : EndParams) (running : Option Running) (session 
     → IsRunning role params session left
 row-of role params running session left e h = subst (λ o. AreRunning role params o left) e h
 
+-- a session of the end that waited is still one when its retransmission timer was due, and a timer
+-- runs then where it should
 pub fired_keeps_waiting : (ticks : TimerTicks) (running : Option Running) (session : Running)
     (new : Sender) (heard : Heard) (left' : Option ℕ) → running ≡ Some session
     → sender_phase session.sender ≡ Waiting → sender_retried session.sender ≡ (new, heard)
@@ -161,6 +169,8 @@ left_of_set clock.Sending left clocks = refl
 left_of_set clock.Answering left clocks = refl
 left_of_set clock.Silent left clocks = refl
 
+-- what an end keeps of a receiver that took a message is the receiver after it, with the timer that
+-- follows from where it stood, where it stands and what the message meant
 pub taken_exact : (ticks : TimerTicks) (message : Message) (payload : List Bool)
     (old new : Receiver) (note : Note) (before after : ReceiverPhase) (c : Clock)
     (clocks clocks' : ClocksData) → receiver_taken message payload old ≡ (new, note)

@@ -50,6 +50,7 @@ next-none : (key : SessionKey) (s : SessionsData)
 unfolding entry message_choice messages_from next_from
 next-none key s = refl
 
+-- an end that has no session gives no message of one, and changes nothing
 pub next_none : (ticks : TimerTicks) (key : SessionKey) (running : Option Running) (left : Option ℕ)
     → running ≡ None → IsNext ticks key (session_of running left) (session_of running left) None
 next_none ticks key running left r =
@@ -75,6 +76,7 @@ next-idle : (s : SessionsData) → next_from s Idle ≡ (s, None)
 unfolding next_from
 next-idle s = refl
 
+-- a session that waits or is quiet gives no message, and is kept as it is
 pub next_waiting : (ticks : TimerTicks) (key : SessionKey) (running : Option Running)
     (session : Running) (left : Option ℕ) (p : SenderPhase) → running ≡ Some session
     → p ≡ sender_phase session.sender → (p ≡ Waiting) ⊎ (p ≡ Quiet)
@@ -110,6 +112,7 @@ next-message : (s : SessionsData) (key : SessionKey) (session : Session) (due : 
 unfolding next_from
 next-message s key session due = refl
 
+-- a session that is sending or closing gives the message that is due, and is kept as after that
 pub next_sending : (ticks : TimerTicks) (key : SessionKey) (running : Option Running)
     (old new : Running) (left left' : Option ℕ) (p : SenderPhase) (out : Option SessionOut)
     → running ≡ Some old → p ≡ sender_phase old.sender → (p ≡ Sending) ⊎ (p ≡ Closing)
@@ -137,6 +140,7 @@ next_sending ticks key running old new left left' p out r e w o a =
 
 -- The answers.
 
+-- an answer that is due of the receiver that answers is given, whatever else is due
 pub answer_first : (role : Role) (params : EndParams) (running : Option Running)
     (answering silent : Receiver) (next : ℕ) (clocks : ClocksData) (bytes : List ℕ)
     → receiver_due answering ≡ Some bytes → (rest : Choice)
@@ -156,6 +160,7 @@ answer_first role params running answering silent next clocks bytes d rest =
           (record { receiver = receiver_answered answering; left = clocks.answering }),
     ) refl
 
+-- where the receiver that answers has none due, an answer that is due of the other one is given
 pub answer_second : (role : Role) (params : EndParams) (running : Option Running)
     (answering silent : Receiver) (next : ℕ) (clocks : ClocksData) (bytes : List ℕ)
     → receiver_due answering ≡ None → receiver_due silent ≡ Some bytes → (rest : Choice)
@@ -176,6 +181,7 @@ answer_second role params running answering silent next clocks bytes n d rest =
           (record { receiver = receiver_answered silent; left = clocks.silent }),
     ) refl
 
+-- where neither receiver has an answer due, what is given next is chosen among the rest
 pub no_answer : (role : Role) (params : EndParams) (running : Option Running)
     (answering silent : Receiver) (next : ℕ) (clocks : ClocksData) → receiver_due answering ≡ None
     → receiver_due silent ≡ None → (rest : Choice)
@@ -183,29 +189,35 @@ pub no_answer : (role : Role) (params : EndParams) (running : Option Running)
 unfolding answers_from answer_or
 no_answer role params running answering silent next clocks n d rest = rw (n, d) refl
 
+-- an answer that is given whatever else is due is what the end gives next
 pub next_answer : (s t : SessionsData) (out : SessionOut)
     → ((rest : Choice) → next_from s (answers_from s.receivers rest) ≡ (t, Some out))
     → next_step s ≡ (t, Some out)
 unfolding next_step choice
 next_answer s t out h = h (message_choice s.senders)
 
+-- where no answer is due, the end gives next what its session gives, if anything
 pub next_message : (s : SessionsData) (t : SessionsData × Option SessionOut)
     → ((rest : Choice) → answers_from s.receivers rest ≡ rest)
     → next_from s (message_choice s.senders) ≡ t → next_step s ≡ t
 unfolding next_step choice
 next_message s t n h = ap (next_from s) (n (message_choice s.senders)) ∙ h
 
+-- what holds of the value of an Ok, and what holds because there is an Ok, hold together
 pub both_ok : {T E : Type 0} (P : T → Type 0) (Q : Type 0) (r : Result T E) → IfOk r P → OnOk r Q
     → IfOk r (λ x. P x × Q)
 both_ok P Q (Ok x) p q = (p, q)
 both_ok P Q (Err e) p q = tt
 
+-- what holds anyway holds where the result is an error
 pub on_err_of : {T E : Type 0} {Q : Type 0} (r : Result T E) → Q → OnErr r Q
 on_err_of (Ok x) q = tt
 on_err_of (Err e) q = q
 
+-- what holds of the value, if there is one, holds of the one that is there
 pub some_of : {T : Type 0} (o : Option T) (P : T → Type 0) (x : T) → o ≡ Some x → IfSome o P → P x
 some_of o P x e h = subst (λ o. IfSome o P) e h
 
+-- what holds if there is no value holds where there is none
 pub none_of : {T : Type 0} (o : Option T) (P : Type 0) → o ≡ None → IfNone o P → P
 none_of o P e h = subst (λ o. IfNone o P) e h

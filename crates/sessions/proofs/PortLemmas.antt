@@ -27,6 +27,7 @@ own_by_port Device false = refl
 own_by_port Gateway true = refl
 own_by_port Gateway false = refl
 
+-- the key of answered fragments has the receiver that answers, the other key the silent one
 pub found_in : (role : Role) (acked : Bool) (answering silent : Reception)
     → found (in_key role acked) (receptions role answering silent) ≡ Some
     (pick acked answering silent)
@@ -36,6 +37,7 @@ found_in Device false answering silent = refl
 found_in Gateway true answering silent = refl
 found_in Gateway false answering silent = refl
 
+-- what is put in by the key of answered fragments replaces the receiver that answers, and no other
 pub put_answering : (role : Role) (answering silent new : Reception)
     → put_in (in_key role true) (Some new) (receptions role answering silent) ≡ receptions role new
     silent
@@ -43,6 +45,7 @@ unfolding put_in without entry same_key
 put_answering Device answering silent new = refl
 put_answering Gateway answering silent new = refl
 
+-- what is put in by the key of fragments without answers replaces the silent one, and no other
 pub put_silent : (role : Role) (answering silent new : Reception)
     → put_in (in_key role false) (Some new) (receptions role answering silent) ≡ receptions role
     answering new

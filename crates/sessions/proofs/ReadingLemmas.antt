@@ -14,6 +14,7 @@ use Rattle.frag_wire.specs.Spells.{Spells, IsWireFault, reading_in}
 use Rattle.frag_wire.specs.declared.message.Message.{Message}
 use Rattle.frag_wire.proofs.ReadingLemmas.{reading-spelled, reading-refused}
 
+-- a message that the bytes spell, or else a fault that they have, is what they are read as
 pub read_is : (params : FragParams) (way : Side) (bytes : List ℕ) (read : Result Message WireFault)
     → IfOk read (λ message. Spells params way message (payload_in message (octets bytes)) bytes)
     → IfErr read (λ fault. IsWireFault params way bytes fault)

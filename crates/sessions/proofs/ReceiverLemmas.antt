@@ -107,6 +107,7 @@ answered-mode (NoAck r) = refl
 answered-mode (AckAlways r) = refl
 answered-mode (AckOnError r) = refl
 
+-- a receiver that gave an answer still has its mode, and its timer runs where it should
 pub answered_keeps : (role : Role) (acked : Bool) (r : Receiver) (left : Option ℕ)
     → IsReceiving role acked r left → IsReceiving role acked (receiver_answered r) left
 answered_keeps role acked r left h =
@@ -141,6 +142,7 @@ fired-mode phase.Finished (NoAck r) = refl
 fired-mode phase.Finished (AckAlways r) = refl
 fired-mode phase.Finished (AckOnError r) = refl
 
+-- a tick neither arms nor disarms a timer
 pub ticked_armed : (left : Option ℕ) → is_armed (ticked left) ≡ is_armed left
 ticked_armed None = refl
 ticked_armed (Some left) = refl
@@ -158,6 +160,7 @@ fired-if role acked r left true t m =
     }
 fired-if role acked r left false t m = record { row = m; timed = t }
 
+-- a receiver still has its mode after a tick, and its timer runs where it should, due or not
 pub ticked_keeps : (role : Role) (acked : Bool) (old new : Receiver) (left left' : Option ℕ)
     (due : Bool) → new ≡ (if due then receiver_fired (receiver_phase old) old else old)
     → due ≡ is_due (ticked left) → left' ≡ unless_due (ticked left)
@@ -187,6 +190,7 @@ still-aoe (aoe.Gathering tiles kept false) e = refl
 still-aoe (aoe.Finished tiles last true) e = absurd cc
 still-aoe (aoe.Finished tiles last false) e = refl
 
+-- a receiver of which no answer is due is the same after giving one
 pub answered_still : (r : Receiver) → receiver_due r ≡ None → receiver_answered r ≡ r
 unfolding receiver_due receiver_answered
 answered_still (NoAck r) e = refl

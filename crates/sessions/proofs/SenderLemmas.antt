@@ -123,24 +123,28 @@ pub record GoesOn (s t : Sender) : Type 0 where
 from-stands : (s t : aoe.AoeSenderData) → Stands s t → GoesOn (AckOnError s) (AckOnError t)
 from-stands s t h = record { params = h.params; mtu = h.mtu; bits = h.bits }
 
+-- a sender that gives its message keeps its parameters, its MTU and its bits
 pub sent_goes : (s : Sender) → GoesOn s (sender_sent s)
 unfolding sender_sent no_ack_step.sent aa_step.sent sent
 sent_goes (NoAck s) = record { params = refl; mtu = refl; bits = refl }
 sent_goes (AckAlways s) = record { params = refl; mtu = refl; bits = refl }
 sent_goes (AckOnError s) = record { params = refl; mtu = refl; bits = refl }
 
+-- a sender that hears a message keeps its parameters, its MTU and its bits
 pub heard_goes : (message : Message) (s : Sender) → GoesOn s (sender_heard message s).0
 unfolding sender_heard aa_step.heard heard
 heard_goes message (NoAck s) = record { params = refl; mtu = refl; bits = refl }
 heard_goes message (AckAlways s) = record { params = refl; mtu = refl; bits = refl }
 heard_goes message (AckOnError s) = from-stands s _ (stands-heard_in message s s.state)
 
+-- a sender whose retransmission timer is due keeps its parameters, its MTU and its bits
 pub retried_goes : (s : Sender) → GoesOn s (sender_retried s).0
 unfolding sender_retried aa_step.retried retried
 retried_goes (NoAck s) = record { params = refl; mtu = refl; bits = refl }
 retried_goes (AckAlways s) = record { params = refl; mtu = refl; bits = refl }
 retried_goes (AckOnError s) = from-stands s _ (stands-retried_in s s.state)
 
+-- a sender that is told to abort keeps its parameters, its MTU and its bits
 pub aborted_goes : (s : Sender) → GoesOn s (sender_aborted s).0
 unfolding sender_aborted no_ack_step.aborted aa_step.aborted aborted
 aborted_goes (NoAck s) = record { params = refl; mtu = refl; bits = refl }
@@ -155,6 +159,7 @@ begun_params mode.NoAck params mtu last bits = refl
 begun_params mode.AckAlways params mtu last bits = refl
 begun_params mode.AckOnError params mtu last bits = refl
 
+-- in each mode a sender begins with the MTU that it is given
 pub begun_mtu : (m : FragMode) (params : FragParams) (mtu : ℕ) (last : LastTile) (bits : List Bool)
     → sender_mtu (sender_begun m params mtu last bits) ≡ mtu
 unfolding sender_begun aoe_step.begun
@@ -162,6 +167,7 @@ begun_mtu mode.NoAck params mtu last bits = refl
 begun_mtu mode.AckAlways params mtu last bits = refl
 begun_mtu mode.AckOnError params mtu last bits = refl
 
+-- in each mode a sender begins with the bits that it is given
 pub begun_bits : (m : FragMode) (params : FragParams) (mtu : ℕ) (last : LastTile) (bits : List Bool)
     → sender_bits (sender_begun m params mtu last bits) ≡ bits
 unfolding sender_begun aoe_step.begun
@@ -169,6 +175,7 @@ begun_bits mode.NoAck params mtu last bits = refl
 begun_bits mode.AckAlways params mtu last bits = refl
 begun_bits mode.AckOnError params mtu last bits = refl
 
+-- in each mode a sender that begins is sending
 pub begun_phase : (m : FragMode) (params : FragParams) (mtu : ℕ) (last : LastTile)
     (bits : List Bool) → sender_phase (sender_begun m params mtu last bits) ≡ phase.Sending
 unfolding sender_begun sender_phase aoe_step.begun aoe_step.sender_phase aoe_step.phase_in
@@ -183,6 +190,7 @@ unfolding aoe_step.due_in
 due-aoe s [] e = absurd cc
 due-aoe s (number ∷ numbers) e = absurd cc
 
+-- in each mode a sender that begins has a message due
 pub begun_due : (m : FragMode) (params : FragParams) (mtu : ℕ) (last : LastTile) (bits : List Bool)
     → sender_due (sender_begun m params mtu last bits) ≡ None → ⊥
 unfolding sender_begun sender_due aoe_step.begun aoe_step.due_bytes aoe_step.due_message
@@ -219,6 +227,7 @@ still-aoe s (aoe.Waiting attempts) e = refl
 still-aoe s aoe.Closing e = absurd cc
 still-aoe s aoe.Quiet e = refl
 
+-- a sender of which nothing is due is the same after giving a message
 pub sent_still : (s : Sender) → sender_due s ≡ None → sender_sent s ≡ s
 unfolding sender_due sender_sent no_ack_step.due_message aa_step.due_message aoe_step.due_bytes
     aoe_step.due_message no_ack_step.sent aa_step.sent sent
@@ -279,6 +288,7 @@ leaves-no_ack (na.Sending i) w = absurd cc
 leaves-no_ack na.Closing w = absurd cc
 leaves-no_ack na.Quiet w = absurd cc
 
+-- where a sender that waited retries, its timer, taken out before, is armed just where it should be
 pub retried_leaves : (s : Sender) → sender_phase s ≡ phase.Waiting
     → Leaves (sender_phase (sender_retried s).0)
 unfolding sender_phase sender_retried aa_step.retried retried aoe_step.sender_phase

@@ -54,6 +54,7 @@ new_receives Device false = record { row = refl; timed = refl }
 new_receives Gateway true = record { row = refl; timed = refl }
 new_receives Gateway false = record { row = refl; timed = refl }
 
+-- a new receiver of the mode in which the other end sends, with no timer armed, is one of this end
 pub new_is : (role other : Role) (acked : Bool) (way : ℕ × FragParams) (receiver : Receiver)
     (left : Option ℕ) → other ≡ other_role role → way ≡ sending_of other acked
     → receiver ≡ new_receiver way.1.mode → left ≡ None → IsReceiving role acked receiver left
@@ -66,6 +67,7 @@ pub fired_quiet : (ticks : TimerTicks) (running : Option Running) (session : Run
 unfolding session_fired fired_in
 fired_quiet ticks running session e p = rw (e, p) refl
 
+-- a timer that is due changes nothing of a session that is sending, and reports nothing
 pub fired_sending : (ticks : TimerTicks) (running : Option Running) (session : Running)
     (left : Option ℕ) → running ≡ Some session → sender_phase session.sender ≡ Sending → left ≡ None
     → fired_session ticks
@@ -77,6 +79,7 @@ pub fired_sending : (ticks : TimerTicks) (running : Option Running) (session : R
 unfolding session_fired fired_in
 fired_sending ticks running session left e p l = rw (e, p, l) refl
 
+-- a timer that is due changes nothing of a session that is closing, and reports nothing
 pub fired_closing : (ticks : TimerTicks) (running : Option Running) (session : Running)
     (left : Option ℕ) → running ≡ Some session → sender_phase session.sender ≡ Closing → left ≡ None
     → fired_session ticks
@@ -88,6 +91,7 @@ pub fired_closing : (ticks : TimerTicks) (running : Option Running) (session : R
 unfolding session_fired fired_in
 fired_closing ticks running session left e p l = rw (e, p, l) refl
 
+-- where the timer of a session that waits is due, its sender retries, and a failure is reported
 pub fired_waiting : (ticks : TimerTicks) (running : Option Running) (session : Running)
     (sender : Sender) (heard : Heard) (left : Option ℕ) (report : Option Report)
     → running ≡ Some session → sender_phase session.sender ≡ Waiting

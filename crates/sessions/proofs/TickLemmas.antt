@@ -114,6 +114,8 @@ unfolding ticked_report
 ticked-report ticks running left d =
     ap (λ step. reported running.number (heard_kind step.1)) (ticked-due ticks running left d)
 
+-- where the session's timer is due with a tick, the session that is left and the report are those
+-- that the timer leads to
 pub due_ticks : (ticks : TimerTicks) (key : SessionKey) (running new : Option Running)
     (left left' : Option ℕ) (report : Option Report) → is_due (ticked left) ≡ true
     → fired_session ticks (session_of running None) ≡ (session_of new left', report)
@@ -135,6 +137,7 @@ unless-not : (left : Option ℕ) → is_due left ≡ false → unless_due left �
 unfolding unless_due
 unless-not left d = rw d refl
 
+-- where the session's timer isn't due with a tick, only that timer changes, and nothing is reported
 pub not_ticks : (ticks : TimerTicks) (key : SessionKey) (running : Option Running)
     (left left' : Option ℕ) → is_due (ticked left) ≡ false → left' ≡ unless_due (ticked left)
     → Ticks ticks key (session_of running left) (session_of running left') None
@@ -148,6 +151,7 @@ not_ticks ticks key (Some running) left left' d l =
     ∙ ap (λ x. (Some (shown running x), heard.Nothing)) (sym (l ∙ unless-not (ticked left) d)))
     refl
 
+-- a session whose timer isn't due with a tick is still the end's, its timer where it should run
 pub not_keeps : (role : Role) (params : EndParams) (running : Option Running)
     (left left' : Option ℕ) → is_due (ticked left) ≡ false → left' ≡ unless_due (ticked left)
     → AreRunning role params running left → AreRunning role params running left'
@@ -160,6 +164,7 @@ not_keeps role params (Some running) left left' d l h =
           ∙ ticked_armed left ∙ h.timed;
     }
 
+-- a timer that is due with a tick isn't armed any more
 pub due_gone : (left left' : Option ℕ) → is_due (ticked left) ≡ true
     → left' ≡ unless_due (ticked left) → left' ≡ None
 unfolding unless_due
@@ -171,6 +176,8 @@ each-two : (role : Role) (answering silent answering' silent' : Reception)
 unfolding each
 each-two role answering silent answering' silent' a s = rw (a, s) refl
 
+-- a tick of an end is one of its session and its timer, whose report it makes, and one of each
+-- receiver and its timer
 pub tick_is : (role : Role) (params : EndParams) (running running' : Option Running)
     (answering answering' silent silent' : Receiver) (next : ℕ) (clocks clocks' : ClocksData)
     (first second : Bool) (report : Option Report)

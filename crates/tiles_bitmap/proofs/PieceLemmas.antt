@@ -60,6 +60,7 @@ end-within from end (place ∷ places) zero (above, most, rest) h = (above, most
 end-within from end (place ∷ places) (suc i) (above, most, rest) h =
     end-within place end places i rest (omega (arith, h))
 
+-- each tile but the last fills whole bytes with its header, in a frame of at most `mtu` bytes
 pub fits-regular : (header mtu : ℕ) (sizes : List ℕ) (i : ℕ) → FitFrames header mtu sizes
     → suc i < length sizes → ((get_or sizes i 0 + header) % 8 ≡ 0)
     × (get_or sizes i 0 + header ≤ 8 * mtu)
@@ -69,6 +70,7 @@ fits-regular header mtu (size ∷ next ∷ sizes) zero (whole, fits, rest) h = (
 fits-regular header mtu (size ∷ next ∷ sizes) (suc i) (whole, fits, rest) h =
     fits-regular header mtu (next ∷ sizes) i rest (omega (arith, h))
 
+-- the last tile fits beside its header and the RCS, in a frame of at most `mtu` bytes
 pub fits-last : (header mtu : ℕ) (sizes : List ℕ) (i : ℕ) → FitFrames header mtu sizes
     → suc i ≡ length sizes → header + 32 + get_or sizes i 0 ≤ 8 * mtu
 fits-last header mtu [] i f h = absurd f
@@ -82,6 +84,7 @@ some-fit : (header mtu : ℕ) (sizes : List ℕ) → FitFrames header mtu sizes 
 some-fit header mtu [] f = absurd f
 some-fit header mtu (size ∷ sizes) f = omega arith
 
+-- where all sizes are at least so large, so is the one at each index
 pub each-least : (least : ℕ) (sizes : List ℕ) (i : ℕ) → AllByRecursion (λ size. least ≤ size) sizes
     → i < length sizes → least ≤ get_or sizes i 0
 each-least least [] i all h = absurd (omega (arith, h))
@@ -101,6 +104,7 @@ pub record IsPiece (params : FragParams) (mtu : ℕ) (bits : List Bool) (i : ℕ
   pub size : length (get_or (tiles params mtu bits) i []) ≡ get_or
       (tile_sizes params mtu (length bits)) i 0
 
+-- in a packet that has a bit each tile is what stands between the end before it and its own
 pub is-piece : (params : FragParams) (mtu : ℕ) (bits : List Bool) (i : ℕ) → IsMtu mtu
     → 1 ≤ length bits → i < length (tile_sizes params mtu (length bits)) → IsPiece params mtu bits i
 is-piece params mtu bits i h some inside =
@@ -125,10 +129,12 @@ is-piece params mtu bits i h some inside =
       size = ap length part ∙ length-piece bits start size (omega (arith, ends, within.1));
     }
 
+-- a packet has as many tiles as there are sizes for so many bits
 pub length-tiles : (params : FragParams) (mtu : ℕ) (bits : List Bool)
     → length (tiles params mtu bits) ≡ length (tile_sizes params mtu (length bits))
 length-tiles params mtu bits = length-parts (tile_sizes params mtu (length bits)) bits
 
+-- there is an end for each tile
 pub length-tile_ends : (params : FragParams) (mtu bits : ℕ)
     → length (tile_ends params mtu bits) ≡ length (tile_sizes params mtu bits)
 length-tile_ends params mtu bits = length-ends 0 (tile_sizes params mtu bits)

@@ -18,6 +18,7 @@ AreOf (tile ∷ tiles) [] = ⊥
 AreOf (tile ∷ tiles) (None ∷ places) = AreOf tiles places
 AreOf (tile ∷ tiles) (Some held ∷ places) = (held ≡ tile) × AreOf tiles places
 
+-- empty places hold nothing but these tiles, where there is a place for each
 pub are_of-nothing : (tiles : List (List Bool)) (n : ℕ) → length tiles ≤ n
     → AreOf tiles (replicate n None)
 are_of-nothing [] zero h = tt
@@ -45,6 +46,7 @@ keep-front (suc c) (tile ∷ tiles) [] k = k
 keep-front (suc c) (tile ∷ tiles) (None ∷ places) k = (refl, keep-front c tiles places k)
 keep-front (suc c) (tile ∷ tiles) (Some held ∷ places) k = (k.0, keep-front c tiles places k.1)
 
+-- places that hold these tiles alone still do when a run of them came, each for its own place
 pub keep-are_of : (k c : ℕ) (tiles : List (List Bool)) (places : List (Option (List Bool)))
     → AreOf tiles places → AreOf tiles (keep k (take c (drop k tiles)) places)
 unfolding keep
@@ -64,6 +66,7 @@ length-keep zero [] (place ∷ places) = refl
 length-keep zero (tile ∷ tiles) (place ∷ places) = ap suc (length-keep zero tiles places)
 length-keep (suc k) tiles (place ∷ places) = ap suc (length-keep k tiles places)
 
+-- there is a bit for each place
 pub length-held_bits : (places : List (Option (List Bool)))
     → length (held_bits places) ≡ length places
 unfolding held_bits
@@ -128,6 +131,7 @@ are_of-whole (tile ∷ tiles) (Some held ∷ places) a all =
           ∙ ap (λ ps. Some tile ∷ ps) w.same;
     }
 
+-- where each tile is at its place and nothing more is held, the bits are ones and then zeros
 pub bits-whole : (tiles : List (List Bool)) (n : ℕ)
     → held_bits (map Some tiles ++ replicate n None) ≡ replicate (length tiles) true ++ replicate n
     false
@@ -136,6 +140,7 @@ bits-whole [] zero = refl
 bits-whole [] (suc n) = ap (λ bs. false ∷ bs) (bits-whole [] n)
 bits-whole (tile ∷ tiles) n = ap (λ bs. true ∷ bs) (bits-whole tiles n)
 
+-- of ones with zeros behind them, a front no longer than the ones is all ones
 pub all_true-front : (a m n : ℕ) → a ≤ m
     → all_true (take a (replicate m true ++ replicate n false)) ≡ true
 unfolding all_true
@@ -156,6 +161,7 @@ no_gap-front (suc a) zero zero = refl
 no_gap-front (suc a) zero (suc n) = none_true-none a n
 no_gap-front (suc a) (suc m) n = no_gap-front a m n
 
+-- of ones with zeros behind them, a part that begins no later than the ones end has no gap
 pub no_gap-part : (a b m n : ℕ) → b ≤ m
     → no_gap (take a (drop b (replicate m true ++ replicate n false))) ≡ true
 no_gap-part a zero m n h = no_gap-front a m n
@@ -168,6 +174,7 @@ joined-none zero n = refl
 joined-none (suc a) zero = refl
 joined-none (suc a) (suc n) = joined-none a n
 
+-- where just these tiles are held, a front of the places that has them all joins them in order
 pub joined-whole : (a n : ℕ) (tiles : List (List Bool)) → length tiles ≤ a
     → joined_tiles (take a (map Some tiles ++ replicate n None)) ≡ joined tiles
 unfolding joined_tiles
@@ -185,6 +192,7 @@ all_true-at (true ∷ bits) zero e h = refl
 all_true-at (true ∷ bits) (suc i) e h = all_true-at bits i e (omega arith)
 all_true-at (false ∷ bits) i e h = absurd cc
 
+-- where the bit at each index is 1, all are
 pub all_true-from : (bits : List Bool) → ((i : ℕ) → i < length bits → get_or bits i false ≡ true)
     → all_true bits ≡ true
 unfolding all_true

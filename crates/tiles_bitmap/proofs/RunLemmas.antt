@@ -86,6 +86,8 @@ one_more-longest true most number next numbers taken e is =
 one_more-longest false most number next numbers taken e is =
     none-longest (suc most) number (next ∷ numbers) (inr (ends-on number next e))
 
+-- a run is the longest front, of at most so many, that follows the number without a gap in its
+-- window of 63; the other numbers are left
 pub runs-longest : RunsAreLongest
 unfolding run
 runs-longest zero number numbers = none-longest 0 number numbers (inl refl)

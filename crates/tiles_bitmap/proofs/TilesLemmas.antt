@@ -16,6 +16,8 @@ use Rattle.schc_ids.specs.Limits.{IsMtu}
 use Rattle.tiles_bitmap.specs.Numbers.{HasNumber, tile_number, tile_index}
 use Rattle.tiles_bitmap.specs.Laws.{joined, Ascend, FitFrames, least_tile}
 
+-- with an MTU of at least 15 bytes, where the last tile can't hold what is left, the tile that is
+-- cut off has a bit
 pub tile_size_some : (m : FragMode) (mtu left : ℕ) → 15 ≤ mtu → most_in_last m mtu < left
     → 1 ≤ tile_size m mtu left
 unfolding tile_size most_in_last
@@ -23,6 +25,8 @@ tile_size_some mode.NoAck mtu left h k = omega arith
 tile_size_some mode.AckAlways mtu left h k = omega arith
 tile_size_some mode.AckOnError mtu left h k = omega arith
 
+-- with an MTU of at least 15 bytes, where the last tile can't hold what is left, the tile that is
+-- cut off leaves some of it
 pub tile_size_leaves : (m : FragMode) (mtu left : ℕ) → 15 ≤ mtu → most_in_last m mtu < left
     → tile_size m mtu left < left
 unfolding tile_size most_in_last
@@ -157,6 +161,7 @@ ends-last ends m mtu at bits h fits =
     ap (λ n. ends ++ n ∷ []) (sym all)
     ∙ ap (λ sizes. ends ++ ends_from at sizes) (sym (tile_sizes_of-one m mtu (bits - at) fits))
 
+-- before a tile is cut, the ends that are still to be found are those of all tiles
 pub ends-begin : (params : FragParams) (mtu bits : ℕ)
     → [] ++ ends_from 0 (tile_sizes_of (bits - 0) params.mode mtu (bits - 0)) ≡ tile_ends params mtu
     bits
@@ -207,6 +212,7 @@ tiles-once m mtu left (size ∷ next ∷ sizes) h (more, tile, rest) =
     ∙ ap (λ n. n ∷ tile_sizes_of (left - n) m mtu (left - n)) same
     ∙ sym (tile_sizes_of-more m mtu left h more)
 
+-- the sizes are those that the definition of tiles says, and there are no others
 pub cut-once : (params : FragParams) (mtu bits : ℕ) → IsMtu mtu
     → AreTiles params.mode mtu bits (tile_sizes params mtu bits)
     × ((sizes : List ℕ) → AreTiles params.mode mtu bits sizes → sizes ≡ tile_sizes params mtu bits)
@@ -217,6 +223,7 @@ cut-once params mtu bits h = (
       mtu bits sizes h.0 are,
 )
 
+-- the sizes that are computed are those that the definition of tiles says
 pub are-tiles : (params : FragParams) (mtu bits : ℕ) → IsMtu mtu
     → AreTiles params.mode mtu bits (tile_sizes params mtu bits)
 are-tiles params mtu bits h = (cut-once params mtu bits h).0
@@ -240,6 +247,7 @@ joined-parts m mtu left (size ∷ next ∷ sizes) bits e (more, tile, rest) =
     (joined-parts m mtu (left - size) (next ∷ sizes) (drop size bits) width rest)
     ∙ take-append-drop size bits
 
+-- the tiles in their order are the packet
 pub tiles-join : (params : FragParams) (mtu : ℕ) (bits : List Bool) → IsMtu mtu
     → joined (tiles params mtu bits) ≡ bits
 tiles-join params mtu bits h =
@@ -276,6 +284,8 @@ fit-frames m mtu left (size ∷ next ∷ sizes) h (more, tile, rest) =
     IsTile-fits m mtu left size h tile in
     (fits.0, fits.1, fit-frames m mtu (left - size) (next ∷ sizes) h rest)
 
+-- each tile but the last fills whole bytes with its header, in a frame of at most `mtu` bytes;
+-- the last one fits beside its header and the RCS
 pub tiles-fit : (params : FragParams) (mtu bits : ℕ) → IsMtu mtu
     → FitFrames (header_of params.mode) mtu (tile_sizes params mtu bits)
 tiles-fit params mtu bits h =
@@ -312,6 +322,7 @@ large-of m mtu left (size ∷ next ∷ sizes) h k (more, tile, rest) =
     IsTile-least m mtu left size h more tile in
     (least.0, large-of m mtu (left - size) (next ∷ sizes) h least.1 rest)
 
+-- each tile has at least 8 bits, in ACK-on-Error at least one, where the packet has as many
 pub tiles-large : (params : FragParams) (mtu bits : ℕ) → IsMtu mtu → least_tile params.mode ≤ bits
     → AllByRecursion (λ size. least_tile params.mode ≤ size) (tile_sizes params mtu bits)
 tiles-large params mtu bits h k =
@@ -332,12 +343,14 @@ count-of (suc most) mtu left h k =
           ∙ omega arith
     ]
 
+-- in ACK-on-Error a packet that has a bit has a tile for each 80, and one for what is left
 pub counts-tiles : (params : FragParams) (mtu bits : ℕ) → params.mode ≡ mode.AckOnError → 1 ≤ bits
     → length (tile_sizes params mtu bits) ≡ (bits + 79) / 80
 unfolding tile_sizes
 counts-tiles params mtu bits e h =
     ap (λ m. length (tile_sizes_of bits m mtu bits)) e ∙ count-of bits mtu bits h (omega arith)
 
+-- in ACK-on-Error the numbers of a tile in one of the four windows lead back to its index
 pub numbers-name : (i : ℕ) → HasNumber mode.AckOnError i
     → tile_index (tile_number mode.AckOnError i) ≡ i
 unfolding tile_number
@@ -363,6 +376,7 @@ ascend-of m mtu left from (size ∷ next ∷ sizes) h some (more, tile, rest) =
           (ascend-of m mtu (left - size) (from + size) (next ∷ sizes) h (omega arith) rest),
     )
 
+-- in a packet that has a bit each tile ends above the one before, the last where the packet ends
 pub ends-ascend : (params : FragParams) (mtu bits : ℕ) → IsMtu mtu → 1 ≤ bits
     → Ascend 0 bits (tile_ends params mtu bits)
 ends-ascend params mtu bits h some =

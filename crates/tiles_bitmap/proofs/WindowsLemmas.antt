@@ -90,6 +90,7 @@ missing-covers k (suc left) (false ∷ bits) (suc i) h there =
     later (inr there) =
         inr (inr (subst (λ n. Among n (missing (suc k) left bits)) (sym (moved k i)) there))
 
+-- the numbers whose bit is 0 are below `m`, where all that are looked at are
 pub missing-fit : (k left m : ℕ) (bits : List Bool) → left ≤ m - k
     → AllByRecursion (λ j. j < m) (missing k left bits)
 unfolding missing
@@ -106,6 +107,7 @@ length-missing k (suc left) [] = omega arith
 length-missing k (suc left) (true ∷ bits) = let h = length-missing (suc k) left bits in omega arith
 length-missing k (suc left) (false ∷ bits) = let h = length-missing (suc k) left bits in omega arith
 
+-- so many numbers from `k` on are below `m`, where they end no later
 pub numbers-fit : (k n m : ℕ) → k + n ≤ m → AllByRecursion (λ j. j < m) (numbers_from k n)
 unfolding numbers_from
 numbers-fit k zero m h = tt
@@ -134,6 +136,7 @@ with_last-last (b ∷ c ∷ bits) = let e : suc (suc (length bits)) - 1 ≡ suc 
     rw e (let f : suc (length bits) - 1 ≡ length bits = omega arith in
     rw f at (with_last-last (c ∷ bits)))
 
+-- a bitmap whose rightmost bit is set is as long as before
 pub length-with_last : (bits : List Bool) → length (with_last bits) ≡ length bits
 unfolding with_last
 length-with_last [] = refl
@@ -186,6 +189,8 @@ one_more-is false k next m numbers rest f h all r =
           omega arith;
     }
 
+-- where a number and those behind it are below `m`, each of those is in its run or left, and all
+-- that the run takes or leaves is below `m`
 pub run-is : (size most k m : ℕ) (numbers : List ℕ) → k < m → AllByRecursion (λ j. j < m) numbers
     → IsRun k m numbers (run size most k numbers)
 unfolding run

@@ -454,6 +454,7 @@ key-linked places next previous linked s head other =
     key-behind (length places) s (at_node places) (at_node next) (at_node previous) linked.rank
     linked.rings head (omega (arith, heads, head)) other
 
+-- what is behind the head of a place, a key or the head itself, is of that place
 pub place-linked : (places next previous : List ℕ) → AreLinked places next previous → (s : ℕ)
     → s < 128 → get_or places (get_or next s 0) 0 ≡ s
 place-linked places next previous linked s head =

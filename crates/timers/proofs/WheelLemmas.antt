@@ -140,6 +140,7 @@ filed-skipped now level deadline member place other (inr h) =
       )
     ]
 
+-- where all levels are opened, each key is a tick later filed, or at a place that begins then
 pub index-later : (now : ℕ) (ds : List (Option ℕ)) (ms : List Bool) (ps : List ℕ)
     → IsIndex now 4 ds ms ps → IsIndex (now + 1) 0 ds ms ps
 index-later now ds ms ps i = record {
@@ -205,6 +206,7 @@ key-filed now from key deadline ds ms ms' ps ps' f is m-in p-in k others =
           (others ne))
     ]
 
+-- filing a key anew leaves the list that tells which keys are due as long as it was
 pub members-len : (now key : ℕ) (deadline : Option ℕ) (ms ms' : List Bool) (ps ps' : List ℕ)
     → IsFiledAnew now key deadline ms ms' ps ps' → length ms' ≡ length ms
 members-len now key deadline ms ms' ps ps' f = ap (λ xs. length xs) f.members_are
@@ -253,6 +255,7 @@ index-refiled now from key deadline ds ms ms' ps ps' inside is f i =
 abbrev pub one_at : ℕ → ℕ → ℕ
 one_at place x = cond (x == place) 1 0
 
+-- how many nodes are at the place
 abbrev pub count_at : ℕ → List ℕ → ℕ
 count_at place places = sum_by (one_at place) places
 
@@ -397,6 +400,7 @@ pub left-set : (now key : ℕ) (deadline : Option ℕ) (ds : List (Option ℕ))
     (left now deadline)
 left-set now key deadline ds = map-set (left now) ds key deadline
 
+-- a deadline set so many ticks after now leaves its key these ticks, and the others as before
 pub left-armed : (now key ticks : ℕ) (ds : List (Option ℕ))
     → map (left now) (slice_set ds key (Some (now + ticks))) ≡ slice_set (map (left now) ds) key
     (Some ticks)
@@ -433,6 +437,7 @@ mapped-suc f [] i d h = absurd (omega (arith, h))
 mapped-suc f (x ∷ xs) zero d h = refl
 mapped-suc f (x ∷ xs) (suc i) d h = ap (λ rest. f x ∷ rest) (mapped-suc f xs i d (omega (arith, h)))
 
+-- where the list up to i is mapped, mapping the item at i makes it mapped up to i + 1
 pub mapped-next : (f : Option ℕ → Option ℕ) (xs : List (Option ℕ)) (i : ℕ) (d : Option ℕ)
     → i < length xs →
     slice_set (mapped_to f i xs) i (f (get_or (mapped_to f i xs) i d)) ≡ mapped_to f (i + 1) xs

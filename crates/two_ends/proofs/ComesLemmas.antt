@@ -80,12 +80,15 @@ come h role given mark =
     after g (came_world g.world (sent_direction role) (marked_frame mark))
     (comes_if (sent_direction role) (Some mark))
 
+-- a slot of the end, and its frame delivered, lead to the history in which this frame came; what
+-- every event keeps of a world holds before the frame comes, and after it
 pub record IsDelivered (params : EndParams) (h : History) (role : Role) (given : Given)
     (mark : Mark) : Type 0 where
   pub same : slot_delivered h role ≡ come h role given mark
   pub sent_keeps : WorldKeeps params (slotted h role given)
   pub keeps : WorldKeeps params (come h role given mark)
 
+-- so it is where the end gives this at its slot, marked as one frame
 pub slot-comes : (params : EndParams) (h : History) (role : Role) (given : Given) (mark : Mark) →
     WorldKeeps params h → gives_of (end_of h.world role) ≡ given →
     marks_given h role given ≡ mark ∷ [] → IsDelivered params h role given mark
@@ -143,6 +146,8 @@ same_way-refl : (role : Role) → same_way (sent_direction role) (sent_direction
 same_way-refl Device = refl
 same_way-refl Gateway = refl
 
+-- a message by a key by which the end sends comes to the other end as a fragment, at the
+-- receiver of the key
 pub fragment-comes : (params : EndParams) (h : History) (role : Role) (given : Given)
     (id : SessionKey) (m : Msg) → IsLinkKey (sent_key role id) →
     WorldKeeps params (slotted h role given) →
@@ -180,6 +185,8 @@ answer-world params g Gateway id m link k =
     (answer-step (end_of g.world Device) (taken_key Gateway id) m link (k.ends Device).its_role
     (k.ends Device).sessions.its_role)
 
+-- a message by a key whose fragments the end takes comes to the other end as an answer, at the
+-- session of the key
 pub answer-comes : (params : EndParams) (h : History) (role : Role) (given : Given)
     (id : SessionKey) (m : Msg) → IsLinkKey (taken_key role id) →
     WorldKeeps params (slotted h role given) →

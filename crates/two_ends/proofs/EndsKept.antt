@@ -50,6 +50,7 @@ pub record EndKeeps (params : EndParams) (chain : List EditionData) (role : Role
 abbrev pub EndsKeep : EndParams → List EditionData → PerRole EndData → Type 0
 EndsKeep params chain ends = (role : Role) → EndKeeps params chain role (at_role ends role)
 
+-- each end of the world is such an end, with editions of the world's chain
 abbrev pub EndsKept : EndParams → WorldData → Type 0
 EndsKept params w = EndsKeep params w.chain w.ends
 

@@ -121,6 +121,8 @@ turn-gives end Rests = refl
 
 -- What an end gives promises.
 
+-- a session that begins: by the end's own key, where it has none, with the first packet that waits,
+-- which doesn't fit one frame, and with these bytes as its first message
 pub record IsOpening (role : Role) (params : EndParams) (end : EndData) (id : SessionKey)
     (session : Session) (form : Packed) (bytes : List ℕ) : Type 0 where
   pub own : id ≡ out_key role params.acked
@@ -130,6 +132,8 @@ pub record IsOpening (role : Role) (params : EndParams) (end : EndData) (id : Se
   pub is_new : session ≡ new_session form.bits end.sessions
   pub first : sender_due session.sender ≡ Some bytes
 
+-- what is given is due at the end: an answer of one of its receivers, a message of its session, the
+-- first message of a session that begins, or the first packet that waits, whole; or it is nothing
 abbrev pub IsGiven : Role → EndParams → EndData → Given → Type 0
 IsGiven role params end (Answers id reception bytes) =
     (acked : Bool) × (id ≡ in_key role acked) × (found id end.sessions.receivers ≡ Some reception)
@@ -185,6 +189,7 @@ turn-is role params end (Begins form) k e =
     ∙ may-begin role params end.sessions k b.may) b.has_turn.is_first b.unfit refl refl
 turn-is role params end Rests k e = tt
 
+-- what an end gives at its slot is due there, where its sessions have their form
 pub given-is : (role : Role) (params : EndParams) (end : EndData)
     → AreSessions role params end.sessions → IsGiven role params end (given_by end (turn end))
 given-is role params end k = turn-is role params end (turn end) k refl

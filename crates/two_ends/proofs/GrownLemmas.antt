@@ -56,6 +56,7 @@ answered-chain w role new (at_end.Aborted report) = refl
 answered-chain w role new (at_end.Answered offered) = refl
 answered-chain w role new (at_end.Allowed allowed) = refl
 
+-- after an event at an end, that end is the one that the event left, and the other is as it was
 pub answered-ends : (w : WorldData) (role : Role) (new : EndData) (o : at_end.Outcome)
     → (answered w role new o).0.ends ≡ put_role w.ends role new
 unfolding answered

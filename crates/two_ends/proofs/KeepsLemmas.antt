@@ -55,6 +55,7 @@ run-keeps P Q keeps [] h fits k = k
 run-keeps P Q keeps (event ∷ events) h fits k =
     run-keeps P Q keeps events (next h event) fits.1 (keeps h event fits.0 k)
 
+-- an event keeps what every event keeps of a world, where a packet that it hands down is bytes
 pub world-step : (params : EndParams) (h : History) (event : Event) → HandsBytes event
     → WorldKeeps params h → WorldKeeps params (next h event)
 unfolding next after
@@ -102,6 +103,8 @@ run-start-keeps params events range bytes =
     run-keeps (Keeps params) HandsBytes (keeps-step params) events (start params) bytes
     (record { world = world-start params range; ups = ups-start params })
 
+-- where the parameters are in range and the events hand down bytes, the lane of the world after
+-- them is the lane after its own events, which can come to pass
 pub run-lanes : (params : EndParams) (key : Key) (events : List Event) → IsParams params
     → AllByRecursion HandsBytes events → IsLaneRun params key events
 run-lanes params key events range bytes =
@@ -231,6 +234,7 @@ lane-honest params h key world check begun checked began session same =
     world entry b.began (among-of_key key check h.logs.checks checked) b.there (sym b.its_key)
     (session ∙ ap (λ (x : Begun). Some x.place) (sym b.its)) (same ∙ ap rcs_of (sym it)) ∙ it
 
+-- the parameters of a key's lane are those of a mode, and in range where the ends' are
 pub lane-params-are : (params : EndParams) (key : Key) → IsParams params
     → AreLaneParams (lane_params params key)
 lane-params-are params key range = record { row = row (mode_of key); in_range = range }
@@ -250,6 +254,7 @@ fill-few : (count : ℕ) → length (fill count) ≤ 7
 unfolding fill
 fill-few count = rw (length-replicate ((8 - count % 8) % 8) false) (omega arith)
 
+-- a packet that is padded for its RCS is the packet with up to 7 bits behind it
 pub padding-of : (frag : FragParams) (mtu : ℕ) (bits : List Bool)
     → IsPaddedBy bits (padded_packet frag mtu bits)
 unfolding padded_packet
@@ -421,6 +426,7 @@ pub bytes-of-fits : (params : EndParams) (events : List Event) → Fits params e
     → AllByRecursion HandsBytes events
 bytes-of-fits params events fits = all-weaken FitsEvent HandsBytes events event-bytes fits.each
 
+-- where two laws of the lanes hold, the headline holds after events that hand down bytes
 pub headline-of : JoinsPadded → Arrived → (params : EndParams) (events : List Event)
     → IsParams params → AllByRecursion HandsBytes events
     → IsHeadline params events (run events (start params))

@@ -20,6 +20,7 @@ use Rattle.two_ends.specs.Labels.{nothing_held}
 use Rattle.two_ends.specs.Lanes.{message_piece, messages}
 use Rattle.two_ends.specs.Logs.{Began, begins_of}
 
+-- a key that is compared with itself is the same
 pub same_key-refl : (key : Key) → same_key key key ≡ true
 unfolding same_key
 same_key-refl key = way-refl key.way key.id
@@ -40,6 +41,7 @@ key-parts way.Down id way.Up other e = absurd cc
 key-parts way.Down id way.Down other e =
     ap (λ i. record { way = way.Down; id = i }) (same_key_true id other e)
 
+-- keys that are compared as the same are equal
 pub same_key-true : (a b : Key) → same_key a b ≡ true → a ≡ b
 same_key-true a b e = key-parts a.way a.id b.way b.id e
 
@@ -56,6 +58,7 @@ unfolding found
 found-put-first key x y rest put true e k = found-rest key x rest
 found-put-first key x y rest put false e k = rw e k
 
+-- by the key by which a value was put, that value is found
 pub found-put_same : {A : Type 0} (key : SessionKey) (x : A) (xs : List (Entry A))
     → found key (put_in key (Some x) xs) ≡ Some x
 unfolding put_in
@@ -100,6 +103,7 @@ other-first id key x y put xs true e f k =
 other-first id key x y put xs false e f k =
     ap (λ o. cond (at_end.same_key id y.key) (Some y.it) o) k
 
+-- by another key, what was found before a value was put is found after it too
 pub found-put_other : {A : Type 0} (id key : SessionKey) (x : A) (xs : List (Entry A))
     → at_end.same_key id key ≡ false → found id (put_in key (Some x) xs) ≡ found id xs
 unfolding put_in found
@@ -115,16 +119,19 @@ unfolding messages
 messages-push key marks mark = flat_map-append (message_piece key) marks (mark ∷ [])
     ∙ ap (λ ms. messages key marks ++ ms) (append-nil (message_piece key mark))
 
+-- one more frame that is a message of the key adds that message to the key's messages
 pub messages-mine : (key : Key) (marks : List Mark) (m : Msg)
     → messages key (marks ++ MessageOf key m ∷ []) ≡ messages key marks ++ m ∷ []
 messages-mine key marks m = messages-push key marks (MessageOf key m)
     ∙ ap (λ b. messages key marks ++ piece b m) (same_key-refl key)
 
+-- one more frame that is a message of another key adds nothing to the key's messages
 pub messages-theirs : (key other : Key) (marks : List Mark) (m : Msg) → same_key key other ≡ false
     → messages key (marks ++ MessageOf other m ∷ []) ≡ messages key marks
 messages-theirs key other marks m e = messages-push key marks (MessageOf other m)
     ∙ ap (λ b. messages key marks ++ piece b m) e ∙ append-nil (messages key marks)
 
+-- one more frame that carries a whole packet adds nothing to a key's messages
 pub messages-whole : (key : Key) (marks : List Mark) (place : ℕ) (frame : FrameData)
     → messages key (marks ++ WholeFrame place frame ∷ []) ≡ messages key marks
 messages-whole key marks place frame = messages-push key marks (WholeFrame place frame)
@@ -135,6 +142,7 @@ among-piece : (key : Key) (m : Msg) (b : Bool) → same_key key key ≡ b → (r
 among-piece key m true e rest = inl refl
 among-piece key m false e rest = let same = same_key-refl key in absurd cc
 
+-- a message of the key that is among the frames is among the key's messages
 pub among-messages : (key : Key) (marks : List Mark) (m : Msg) → Among (MessageOf key m) marks
     → Among m (messages key marks)
 unfolding messages
@@ -161,11 +169,13 @@ keyed-of key other true e (y ∷ ys) = ap (λ b. piece b y ++ of_key key (keyed 
 keyed-of key other false e (y ∷ ys) = ap (λ b. piece b y ++ of_key key (keyed other ys)) e
     ∙ keyed-of key other false e ys
 
+-- what a log gains for the key comes behind what it had of the key
 pub of_key-mine : {A : Type 0} (key : Key) (xs : List (Keyed A)) (ys : List A)
     → of_key key (xs ++ keyed key ys) ≡ of_key key xs ++ ys
 of_key-mine key xs ys = of_key-append key xs (keyed key ys)
     ∙ ap (λ zs. of_key key xs ++ zs) (keyed-of key key true (same_key-refl key) ys)
 
+-- what a log gains for another key changes nothing of what it had of the key
 pub of_key-theirs : {A : Type 0} (key other : Key) (xs : List (Keyed A)) (ys : List A)
     → same_key key other ≡ false → of_key key (xs ++ keyed other ys) ≡ of_key key xs
 of_key-theirs key other xs ys e = of_key-append key xs (keyed other ys)
@@ -178,12 +188,14 @@ unfolding begins_of
 begins-push key xs b = flat_map-append (λ b. piece (same_key key b.key) b.it) xs (b ∷ [])
     ∙ ap (λ ys. begins_of key xs ++ ys) (append-nil (piece (same_key key b.key) b.it))
 
+-- a session that begins by the key comes behind those of the key
 pub begins-mine : (key : Key) (xs : List Began) (b : Began) → b.key ≡ key
     → begins_of key (xs ++ b ∷ []) ≡ begins_of key xs ++ b.it ∷ []
 begins-mine key xs b e = begins-push key xs b
     ∙ ap (λ k. begins_of key xs ++ piece (same_key key k) b.it) e
     ∙ ap (λ same. begins_of key xs ++ piece same b.it) (same_key-refl key)
 
+-- a session that begins by another key changes nothing of those of the key
 pub begins-theirs : (key : Key) (xs : List Began) (b : Began) → same_key key b.key ≡ false
     → begins_of key (xs ++ b ∷ []) ≡ begins_of key xs
 begins-theirs key xs b e = begins-push key xs b ∙ ap (λ same. begins_of key xs ++ piece same b.it) e
@@ -194,6 +206,7 @@ all-piece : {A : Type 0} (P : A → Type 0) (b : Bool) (x : A) → P x → AllBy
 all-piece P true x p = (p, tt)
 all-piece P false x p = tt
 
+-- what holds of all entries of a log, whatever their key, holds of those of one key
 pub all-of_key : {A : Type 0} (P : A → Type 0) (key : Key) (xs : List (Keyed A))
     → AllByRecursion (λ x. P x.it) xs → AllByRecursion P (of_key key xs)
 unfolding of_key
@@ -202,6 +215,7 @@ all-of_key P key (x ∷ xs) all =
     all-append P (piece (same_key key x.key) x.it) (of_key key xs)
     (all-piece P (same_key key x.key) x.it all.0) (all-of_key P key xs all.1)
 
+-- what holds of all sessions that began holds of those of one key
 pub all-begins : (P : Begun → Type 0) (key : Key) (xs : List Began)
     → AllByRecursion (λ x. P x.it) xs → AllByRecursion P (begins_of key xs)
 unfolding begins_of
@@ -239,6 +253,7 @@ hold-other way.Down way.Up id other new labels e = refl
 hold-other way.Down way.Down id other new labels e =
     ap (λ o. unwrap_or o nothing_held) (found-put_other id other new labels.held.down e)
 
+-- the receiver of a key keeps what it kept where that of another key keeps something new
 pub held-hold_other : (key other : Key) (new : Held) (labels : Labels) → same_key key other ≡ false
     → held_by key (record labels { held = hold other new labels.held }) ≡ held_by key labels
 held-hold_other key other new labels e = hold-other key.way other.way key.id other.id new labels e

@@ -62,6 +62,7 @@ use Rattle.two_ends.proofs.WorldLemmas.{given_world}
 abbrev key_at : Direction → SessionKey → Key
 key_at w id = record { way = w; id = id }
 
+-- the history after the end gave this at its slot
 abbrev pub slotted : History → Role → Given → History
 slotted h role given = after h (given_world h.world role given) (Gives role given)
 
@@ -398,6 +399,8 @@ row Device false = refl
 row Gateway true = refl
 row Gateway false = refl
 
+-- the session that an end with this role and these parameters would begin is that of the lane of
+-- the end's own key
 pub new-is : (params : EndParams) (role : Role) (s : SessionsData) (bits : List Bool)
     → s.role ≡ role → s.params ≡ params
     → new_session bits s ≡ lane_session
@@ -524,6 +527,8 @@ begin-possible params h role id session form bytes chain ends queues marks mtu o
       params h role form chain ends queues mtu o.is_first o.unfit,
 )
 
+-- what is due at an end, and given at its slot, is on each key's lane one event that can come to
+-- pass there, or none
 pub slot-makes : (params : EndParams) (key : Key) (h : History) (role : Role) (given : Given)
     → ChainKept h.world.chain → EndsKept params h.world → QueuesKept params.iids h
     → MarksKept params.iids h → IsMtu params.mtu → IsGiven role params (end_of h.world role) given →

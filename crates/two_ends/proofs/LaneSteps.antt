@@ -137,6 +137,7 @@ joins-past h (Answer key m) k = past-later h k
 joins-past h (Ticks target) k = past-later h k
 joins-past h (GivesUp role id) k = past-later h k
 
+-- after each event too, each check that passed did so before then
 pub joins-step : (h : History) (event : Event) → JoinsPast h → JoinsPast (next h event)
 unfolding next after
 joins-step h event k = joins-past h (happening h event) k
@@ -196,6 +197,7 @@ offered-sessions w role number (Some edition) =
 
 -- A frame that arrives.
 
+-- a frame that comes by a port of whole packets leaves the end that takes it as it was
 pub whole-sessions : (end : EndData) (frame : FrameData) → meaning_of end.role frame.port ≡ Whole
     → (take_step end frame).0 ≡ end
 unfolding take_step take_from
@@ -368,6 +370,7 @@ abort-world params h role ends =
 
 -- The world's step.
 
+-- the frame with a number is that of the mark with it, where each frame is that of its mark
 pub look-up : (h : History) (direction : Direction) (number : ℕ)
     → FramesMarked h.world.frames h.labels.sent
     → numbered (frames_of h.world direction) number ≡ option_map marked_frame
@@ -424,6 +427,8 @@ makes params key h (Allow role number) k =
     apart-makes params key h _ Nothing (length h.logs.begins) tt
     (answered-sessions h.world role _ _ (allow-sessions (end_of h.world role) number))
 
+-- an event of a world is on each key's lane the steps of its events there, each possible
+-- where it comes
 pub steps_of_a_world : (params : EndParams) (key : Key) (h : History) (event : Event)
     → WorldKeeps params h → IsStepped params key h event
 steps_of_a_world params key h event k = let m = makes params key h event k in
@@ -526,6 +531,8 @@ pub record IsLaneRun (params : EndParams) (key : Key) (events : List Event) : Ty
       (lane_run key (start params) events)
   pub possible : ArePossible (lane_params params key) (lane_run key (start params) events)
 
+-- so it is for events that hand down bytes, where each such event keeps what every event keeps of a
+-- world, and this holds at the beginning
 pub lane-runs : (params : EndParams) (key : Key) (events : List Event)
     → ((g : History) (event : Event) → HandsBytes event → WorldKeeps params g
     → WorldKeeps params (next g event)) → AllByRecursion HandsBytes events

@@ -54,6 +54,7 @@ key_at w id = record { way = w; id = id }
 
 -- a fragment comes
 
+-- the world after a message came as a fragment to the receiver of its key
 abbrev pub fragment_world : WorldData → Key → Msg → WorldData
 fragment_world w key m =
     let end : EndData = end_of w (taker key.way) in
@@ -74,6 +75,7 @@ fragment-reads way.Up id h m r reading e there =
 fragment-reads way.Down id h m r reading e there =
     rw (e, fragment-found h.world.ends.device.sessions id m.bytes reading r there) refl
 
+-- the receiver that the end has by the key, where it takes the key's fragments, is the key's
 pub reception-is : (w : WorldData) (key : Key) (r : Reception)
     → found key.id (end_of w (taker key.way)).sessions.receivers ≡ Some r → reception_at w key ≡ r
 unfolding reception_at
@@ -183,6 +185,7 @@ fragment-theirs params key own h m ends link n =
 
 -- an answer comes
 
+-- the world after a message came as an answer to the session of its key
 abbrev pub answer_world : WorldData → Key → Msg → WorldData
 answer_world w key m =
     let end : EndData = end_of w (sender key.way) in
@@ -290,6 +293,7 @@ mine-or params key own h new event true e mine theirs = let m = mine (same_key-t
     record { same = m.0; possible = (m.1, tt) }
 mine-or params key own h new event false e mine theirs = record { same = theirs e; possible = tt }
 
+-- a fragment that was sent, and comes, is a possible event of its key's lane, and of no other
 pub fragment-makes : (params : EndParams) (key own : Key) (h : History) (m : Msg) (n : ℕ)
     → EndsKept params h.world → IsLinkKey own
     → Among m (messages own (at_direction h.labels.sent own.way))
@@ -310,6 +314,7 @@ fragment-makes params key own h m n ends link there past =
     ))
     (fragment-theirs params key own h m ends link)
 
+-- an answer that was sent, and comes, is a possible event of its key's lane, and of no other
 pub answer-makes : (params : EndParams) (key own : Key) (h : History) (m : Msg) (n : ℕ)
     → EndsKept params h.world
     → Among m (messages own (at_direction h.labels.sent (other_direction own.way)))

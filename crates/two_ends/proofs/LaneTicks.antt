@@ -45,6 +45,7 @@ key_at w id = record { way = w; id = id }
 
 -- A session is given up.
 
+-- the world after an end gave up the session that it sends by this key, if there is one
 abbrev pub given_up : WorldData → Role → SessionKey → WorldData
 given_up w role id =
     let end : EndData = end_of w role in
@@ -134,6 +135,8 @@ abort-theirs params key role id h n =
           (aborted_by (end_of h.world role).params.ticks (sender_at h.world own)).1) n,
     ) refl
 
+-- where an end gives up a session by a key, so does that key's lane, and nothing
+-- happens on the others
 pub abort-makes : (params : EndParams) (key : Key) (h : History) (role : Role) (id : SessionKey)
     (n : ℕ) → EndsKept params h.world
     → Makes params key h (after h (given_up h.world role id) (GivesUp role id))
@@ -214,6 +217,7 @@ none-apart : (params : EndParams) (role : Role) (id : SessionKey) (s : SessionsD
 none-apart params role id s k n = ap (found id) k.senders
     ∙ found_other id (out_key role params.acked) k.session n
 
+-- the key by which an end sends is that of its role and of the world's parameters
 pub own-same : (params : EndParams) (role : Role) (h : History) → EndsKept params h.world
     → own_key (end_of h.world role) ≡ out_key role params.acked
 own-same params role h ends =
@@ -357,6 +361,7 @@ tick-possible : (time : ℕ) (l : Lane) (b : Bool) → Possible time l (ticks_on
 tick-possible time l true = tt
 tick-possible time l false = tt
 
+-- a tick of the device is on a lane up a tick of its sender, on a lane down one of its receiver
 pub device-makes : (params : EndParams) (key : Key) (h : History) (n : ℕ) → EndsKept params h.world
     → Makes params key h (after h (one_tick h.world Device) (Ticks target.Device))
     (events_of key n (Ticks target.Device))
@@ -368,6 +373,7 @@ device-makes params key h n ends =
           (tick-possible h.place (lane_of params key h) _, tt);
     }
 
+-- a tick of the gateway is on a lane down a tick of its sender, on a lane up one of its receiver
 pub gateway-makes : (params : EndParams) (key : Key) (h : History) (n : ℕ) → EndsKept params h.world
     → Makes params key h (after h (one_tick h.world Gateway) (Ticks target.Gateway))
     (events_of key n (Ticks target.Gateway))
@@ -379,6 +385,7 @@ gateway-makes params key h n ends =
           (tick-possible h.place (lane_of params key h) _, tt);
     }
 
+-- a tick of both ends is on each lane two ticks, the device's before the gateway's
 pub both-makes : (params : EndParams) (key : Key) (h : History) (n : ℕ) → EndsKept params h.world
     → Makes params key h (after h (both_tick h.world) (Ticks target.Both))
     (events_of key n (Ticks target.Both))
@@ -423,6 +430,7 @@ parts-same w new way.Down id same = (
       (same Device),
 )
 
+-- what says nothing of sessions, and leaves those of both ends as they are, is nothing on a lane
 pub apart-makes : (params : EndParams) (key : Key) (h : History) (new : WorldData) (x : Happening)
     (n : ℕ) → IsApart x → SameSessions h.world new
     → Makes params key h (after h new x) (events_of key n x)

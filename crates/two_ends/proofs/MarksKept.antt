@@ -48,11 +48,14 @@ pub record IsFrameOf (iids : Iids) (h : History) (direction : Direction) (frame 
 abbrev pub IsLinkKey : Key → Type 0
 IsLinkKey key = (acked : Bool) × (key.id ≡ out_key (sender key.way) acked)
 
+-- what the mark says is so: the frame carries whole the packet of this place, or the message's key
+-- is one of those of the ends
 abbrev pub IsMarked : Iids → History → Direction → Mark → Type 0
 IsMarked iids h direction (WholeFrame place frame) =
     IsSomeAnd (slice_get h.logs.downs place) (IsFrameOf iids h direction frame)
 IsMarked iids h direction (MessageOf key m) = IsLinkKey key
 
+-- what the mark says is so for all frames that were sent, in each direction
 abbrev pub MarksKeep : Iids → History → PerDirection (List Mark) → Type 0
 MarksKeep iids h sent = (direction : Direction)
     → AllByRecursion (IsMarked iids h direction) (at_direction sent direction)
@@ -64,6 +67,8 @@ pub record IsBegunOf (iids : Iids) (h : History) (b : Began) (w : HandedDown) : 
   pub its_bits : b.it.bits ≡ form.bits
   pub before : w.place < b.it.time
 
+-- a session that began has a key of the ends, carries a packet that was handed down before it, and
+-- began before now
 pub record IsBegun (iids : Iids) (h : History) (b : Began) : Type 0 where
   pub link : IsLinkKey b.key
   pub leads : IsSomeAnd (slice_get h.logs.downs b.down) (IsBegunOf iids h b)
@@ -78,6 +83,8 @@ pub record BeginsKeep (iids : Iids) (h : History) (begins : List Began) : Type 0
   pub each : AllByRecursion (IsBegun iids h) begins
   pub placed : ArePlaced 0 begins
 
+-- what the marks say is so for all frames that were sent, and each session that began is such a
+-- one, at its own place in the log
 pub record MarksKept (iids : Iids) (h : History) : Type 0 where
   pub marks : MarksKeep iids h h.labels.sent
   pub begins : BeginsKeep iids h h.logs.begins
@@ -144,11 +151,13 @@ begins-later iids h new g k =
 
 -- A slot.
 
+-- a key by which an end sends, with answers or without, is one of those of the ends
 pub own-link : (role : Role) (id : SessionKey) (acked : Bool) → id ≡ out_key role acked
     → IsLinkKey (sent_key role id)
 own-link Device id acked e = (acked, e)
 own-link Gateway id acked e = (acked, e)
 
+-- a key by which an end takes fragments, with answers or without, is one of those of the ends
 pub in-link : (role : Role) (id : SessionKey) (acked : Bool) → id ≡ in_key role acked
     → IsLinkKey (taken_key role id)
 in-link Device id acked e = (acked, e)

@@ -112,6 +112,7 @@ mode-step time l ReceiverTick p k =
     l.reception k
 mode-step time l Abort p k = k
 
+-- the receiver that is made for a mode, and keeps nothing, has that mode
 pub new-mode : (m : FragMode) → receiver_mode (new_receiver m) ≡ m
 unfolding new_receiver
 new-mode mode.NoAck = refl

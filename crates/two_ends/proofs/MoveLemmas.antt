@@ -26,6 +26,7 @@ received ticks r bytes (Err fault) = r
 received ticks r bytes (Ok message) =
     (reception_taken ticks message (payload_in message (octets bytes)) r).0
 
+-- after a fragment by a key of which the end has a receiver, this receiver has taken it
 pub fragment-found : (s : SessionsData) (id : SessionKey) (bytes : List ℕ)
     (reading : Result Message WireFault) (r : Reception) → found id s.receivers ≡ Some r
     → found id (fragment_read s id bytes reading).0.receivers ≡ Some
@@ -34,6 +35,7 @@ unfolding fragment_read fragment_taken
 fragment-found s id bytes (Err fault) r e = e
 fragment-found s id bytes (Ok message) r e = rw e (found-put_same id _ s.receivers)
 
+-- a fragment leaves the receivers of other keys as they were
 pub fragment-other : (s : SessionsData) (other id : SessionKey) (bytes : List ℕ)
     (reading : Result Message WireFault) (r : Reception) → found id s.receivers ≡ Some r
     → same_key other id ≡ false
@@ -42,6 +44,7 @@ unfolding fragment_read fragment_taken
 fragment-other s other id bytes (Err fault) r e n = refl
 fragment-other s other id bytes (Ok message) r e n = rw e (found-put_other other id _ s.receivers n)
 
+-- a fragment leaves the sessions that the end sends as they were
 pub fragment-senders : (s : SessionsData) (id : SessionKey) (bytes : List ℕ)
     (reading : Result Message WireFault) (r : Reception) → found id s.receivers ≡ Some r
     → (fragment_read s id bytes reading).0.senders ≡ s.senders
@@ -64,6 +67,8 @@ lane_came l r c =
 abbrev pub held_of : Lane → Held
 held_of l = record { last = l.label; kept = l.kept_label }
 
+-- a lane that took a message has the receiver that has taken it, and what the message adds to
+-- labels and logs
 pub took-came : (time : ℕ) (l : Lane) (m : Msg) (reading : Result Message WireFault)
     → lane_took time l m reading ≡ lane_came l
     (received l.params.ends.ticks l.reception m.bytes reading)
@@ -86,6 +91,7 @@ unfolding heard_by
 unheard ticks None fault = refl
 unheard ticks (Some session) fault = refl
 
+-- after an answer by a key, the end's session of the key is what a lane's sender is that heard it
 pub answer-found : (s : SessionsData) (id : SessionKey) (reading : Result Message WireFault)
     → found id
     (answer_read s id reading).0.senders ≡ (heard_by s.params.ticks (found id s.senders) reading).0
@@ -101,6 +107,7 @@ unfolding answer_taken
 answer-apart s other id message None n = refl
 answer-apart s other id message (Some session) n = found-put_other other id _ s.senders n
 
+-- an answer leaves the sessions of other keys as they were
 pub answer-other : (s : SessionsData) (other id : SessionKey) (reading : Result Message WireFault)
     → same_key other id ≡ false
     → found other (answer_read s id reading).0.senders ≡ found other s.senders
@@ -114,6 +121,7 @@ unfolding answer_taken
 answer-still s id message None = refl
 answer-still s id message (Some session) = refl
 
+-- an answer leaves the receivers of the end as they were
 pub answer-receivers : (s : SessionsData) (id : SessionKey) (reading : Result Message WireFault)
     → (answer_read s id reading).0.receivers ≡ s.receivers
 unfolding answer_read
@@ -127,12 +135,15 @@ unfolding aborted_from aborted_by
 aborted-cases s id None e = e
 aborted-cases s id (Some session) e = found-put_same id _ s.senders
 
+-- after the end gave up its session of a key, the session is what a lane's sender is
+-- that was given up
 pub aborted-found : (s : SessionsData) (id : SessionKey)
     → found id
     (aborted_from s id (found id s.senders)).0.senders ≡ (aborted_by s.params.ticks
     (found id s.senders)).0
 aborted-found s id = aborted-cases s id (found id s.senders) refl
 
+-- a session that is given up leaves those of other keys as they were
 pub aborted-other : (s : SessionsData) (other id : SessionKey) (o : Option Session)
     → same_key other id ≡ false
     → found other (aborted_from s id o).0.senders ≡ found other s.senders
@@ -140,6 +151,7 @@ unfolding aborted_from
 aborted-other s other id None n = refl
 aborted-other s other id (Some session) n = found-put_other other id _ s.senders n
 
+-- a session that is given up leaves the receivers of the end as they were
 pub aborted-receivers : (s : SessionsData) (id : SessionKey) (o : Option Session)
     → (aborted_from s id o).0.receivers ≡ s.receivers
 unfolding aborted_from
@@ -162,12 +174,15 @@ unfolding found entry
 own-changed f key own None = refl
 own-changed f key own (Some x) = one-changed f key own x (f x) (same_key key own) refl refl
 
+-- where there is one entry or none, what is found by a key after a change of the values is what was
+-- found before, changed or gone
 pub found-changed : {A : Type 0} (f : A → Option A) (key own : SessionKey) (o : Option A)
     (xs : List (Entry A)) → xs ≡ entry own o → found key (changed f xs) ≡ then f (found key xs)
 found-changed f key own o xs e =
     ap (λ ys. found key (changed f ys)) e ∙ ap (found key) (changed-own f own o)
     ∙ own-changed f key own o ∙ ap (λ ys. then f (found key ys)) (sym e)
 
+-- what a tick makes of a session, where there is one, is what it makes of a lane's sender
 pub ticked-then : (ticks : TimerTicks) (o : Option Session)
     → then (λ session. (session_ticked ticks session).0) o ≡ (ticked_by ticks o).0
 unfolding ticked_by
@@ -179,6 +194,7 @@ each-first : {A : Type 0} (f : A → A) (x : A) (b : Bool) (o p : Option A) → 
 each-first f x true o p e = refl
 each-first f x false o p e = e
 
+-- what is found by a key after each value was changed is what was found before it, changed
 pub found-each : {A : Type 0} (f : A → A) (id : SessionKey) (xs : List (Entry A))
     → found id (each f xs) ≡ option_map f (found id xs)
 unfolding each found

@@ -47,6 +47,7 @@ pub put_direction-at_direction : {A : Type 0} (xs : PerDirection A) (direction :
 put_direction-at_direction xs way.Up = refl
 put_direction-at_direction xs way.Down = refl
 
+-- where what was at an end is put there, nothing changes
 pub put_role-at_role : {A : Type 0} (xs : PerRole A) (role : Role)
     → put_role xs role (at_role xs role) ≡ xs
 put_role-at_role xs Device = refl
@@ -63,6 +64,7 @@ pub taker-sent : (role : Role) → taker (sent_direction role) ≡ other_role ro
 taker-sent Device = refl
 taker-sent Gateway = refl
 
+-- where something is put at an end, the end that its frames come to has what it had
 pub at_role-put_role-taker : {A : Type 0} (xs : PerRole A) (role : Role) (x : A)
     → at_role (put_role xs role x) (taker (sent_direction role)) ≡ at_role xs
     (taker (sent_direction role))

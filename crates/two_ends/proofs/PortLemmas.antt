@@ -28,6 +28,7 @@ use Rattle.two_ends.specs.World.{sender, taker}
 use Rattle.two_ends.proofs.MarksKept.{IsLinkKey}
 use Rattle.two_ends.proofs.SessionsKept.{AreSessions, in-is}
 
+-- the parameters of a mode are of that mode
 pub mode-params : (m : FragMode) → (params_of m).mode ≡ m
 mode-params mode.NoAck = refl
 mode-params mode.AckAlways = refl
@@ -57,12 +58,14 @@ link-is : (w : Direction) (id : SessionKey) (acked : Bool) → id ≡ out_key (s
     → ◌≡◌ {A = Key} (link_key w acked) (record { way = w; id = id })
 link-is w id acked e = ap (λ i. record { way = w; id = i }) (sym e)
 
+-- by the port of a key of the ends, fragments of its mode come to the end that takes them
 pub fragments-port : (key : Key) → IsLinkKey key
     → meaning_of (taker key.way) key.id.port ≡ Fragments (params_of (mode_of key))
 fragments-port key link =
     subst (λ (k : Key). meaning_of (taker k.way) k.id.port ≡ Fragments (params_of (mode_of k)))
     (link-is key.way key.id link.0 link.1) (link-fragments key.way link.0)
 
+-- a key of the ends is the key of its port, with a DTag of 0
 pub key-port : (key : Key) → IsLinkKey key → port_key key.id.port ≡ key.id
 key-port key link =
     subst (λ (k : Key). port_key k.id.port ≡ k.id) (link-is key.way key.id link.0 link.1)
@@ -80,6 +83,8 @@ link-answers way.Up false = inr (refl, refl)
 link-answers way.Down true = inl refl
 link-answers way.Down false = inr (refl, refl)
 
+-- by the port of a key of the ends, answers of its mode come to the end that sends its fragments;
+-- in No-ACK nothing does
 pub answers-port : (key : Key) → IsLinkKey key
     → AnswersBy (mode_of key) (meaning_of (sender key.way) key.id.port)
 answers-port key link =
@@ -91,6 +96,8 @@ in-sender : (w : Direction) (acked : Bool) → in_key (taker w) acked ≡ out_ke
 in-sender way.Up acked = refl
 in-sender way.Down acked = refl
 
+-- by a key of the ends, the end that takes its fragments has the receiver that answers, or the one
+-- that doesn't, as the key is
 pub link-received : (key : Key) (params : EndParams) (s : SessionsData) → (link : IsLinkKey key)
     → (k : AreSessions (taker key.way) params s)
     → found key.id s.receivers ≡ Some (pick link.0 k.answering k.silent)
@@ -111,6 +118,8 @@ unfolding read_previewed fragment_previewed
 previewed-found s key bytes (Err fault) r e = refl
 previewed-found s key bytes (Ok message) r e = rw e refl
 
+-- what bytes by the port of a key of the ends would make whole, at the end that takes its
+-- fragments, is what they would make whole at the key's receiver
 pub preview-key : (key : Key) (params : EndParams) (s : SessionsData) (bytes : List ℕ)
     → (link : IsLinkKey key) → (k : AreSessions (taker key.way) params s) →
     preview_of key.id.port bytes s ≡ previewed_of (pick link.0 k.answering k.silent).receiver bytes
@@ -133,6 +142,7 @@ unfolding preview_from
 answers-previewed s key bytes m meaning (inl e) = rw e refl
 answers-previewed s key bytes m meaning (inr e) = rw e.0 refl
 
+-- by the port of a key of the ends, bytes make nothing whole at the end that sends its fragments
 pub preview-answer : (key : Key) (params : EndParams) (s : SessionsData) (bytes : List ℕ)
     → IsLinkKey key → AreSessions (sender key.way) params s → preview_of key.id.port bytes s ≡ None
 unfolding preview_of
@@ -141,6 +151,7 @@ preview-answer key params s bytes link k =
     ∙ answers-previewed s (port_key key.id.port) bytes (mode_of key)
     (meaning_of (sender key.way) key.id.port) (answers-port key link)
 
+-- a port by which answers come, or in No-ACK nothing does, isn't one of whole packets
 pub answers-unwhole : (m : FragMode) (meaning : PortMeaning) → AnswersBy m meaning → meaning ≡ Whole
     → ⊥
 answers-unwhole m meaning (inl e) w = cc

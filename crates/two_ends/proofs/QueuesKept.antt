@@ -70,6 +70,7 @@ abbrev pub QueuesKeep : Iids → History → PerRole EndData → PerRole (List �
 QueuesKeep iids h ends queued = (role : Role)
     → QueueKeeps iids h role (at_role ends role).queue (at_role queued role)
 
+-- each packet that waits at an end was handed down there, and waits as it was written then
 abbrev pub QueuesKept : Iids → History → Type 0
 QueuesKept iids h = QueuesKeep iids h h.world.ends h.labels.queued
 

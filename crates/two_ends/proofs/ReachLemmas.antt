@@ -38,6 +38,7 @@ sessions-at s port bytes m meaning e =
     ∙ ap (λ n. (fragment_read s (port_key port) bytes (reading_in n side.Fragments bytes)).0)
     (mode-params m)
 
+-- the end that takes a key's fragments takes a message of the key as a fragment, at its receiver
 pub fragment-step : (end : EndData) (key : Key) (m : Msg) → IsLinkKey key → end.role ≡ taker key.way
     → end.sessions.role ≡ taker key.way →
     (take_step end (marked_frame (MessageOf key m))).0 ≡ with_sessions end
@@ -84,6 +85,7 @@ answers-at end frame m meaning same (inl e) =
     (same ∙ e))
 answers-at end frame m meaning same (inr e) = rw (e.0, e.1) refl
 
+-- the end that sends a key's fragments takes a message of the key as an answer, at its session
 pub answer-step : (end : EndData) (key : Key) (m : Msg) → IsLinkKey key → end.role ≡ sender key.way
     → end.sessions.role ≡ sender key.way →
     (take_step end (marked_frame (MessageOf key m))).0 ≡ with_sessions end

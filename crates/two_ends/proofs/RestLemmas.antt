@@ -31,6 +31,7 @@ use Rattle.two_ends.proofs.WorldLemmas.{given_world, slot-next}
 abbrev pub gives_of : EndData → Given
 gives_of end = given_by end (turn end)
 
+-- neither end gives a frame at its slot
 abbrev pub IsRested : PerRole EndData → Type 0
 IsRested ends = (role : Role) → gives_of (at_role ends role) ≡ NoFrame
 
@@ -66,6 +67,7 @@ unfolding slot_step given_step
 slot-none w role e = sym (turn-gives (end_of w role) (turn (end_of w role)))
     ∙ ap (given_step (end_of w role)) e
 
+-- where neither end gives a frame at its slot, neither has one due
 pub rested-due : (w : WorldData) → IsRested w.ends → HasNothingDue w
 unfolding step end_event end_step answered frames_after
 rested-due w rested role =
@@ -93,6 +95,7 @@ none-still h role =
       append-nil h.logs.reports,
     ) refl
 
+-- a slot of an end that gives nothing is one more event, by which nothing changed
 pub slot-still : (h : History) (role : Role) → gives_of (end_of h.world role) ≡ NoFrame
     → next h (Slot role) ≡ still h
 slot-still h role e = slot-next h role

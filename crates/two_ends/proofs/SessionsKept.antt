@@ -45,6 +45,7 @@ pub record AreSessions (role : Role) (params : EndParams) (s : SessionsData) : T
   pub senders : s.senders ≡ entry (out_key role params.acked) session
   pub receivers : s.receivers ≡ receptions role answering silent
 
+-- the sessions of a new end have their form
 pub are-new : (role : Role) (params : EndParams)
     → AreSessions role params (new_sessions role params)
 unfolding entry
@@ -65,12 +66,15 @@ pub own-is : (role : Role) (params : EndParams) (s : SessionsData) → (k : AreS
 own-is role params s k = ap (found (out_key role params.acked)) k.senders
     ∙ found_own (out_key role params.acked) k.session
 
+-- by a key of what the end takes, it has the receiver that answers, or the one that
+-- doesn't, as the key is
 pub in-is : (role : Role) (params : EndParams) (s : SessionsData) (acked : Bool)
     → (k : AreSessions role params s)
     → found (in_key role acked) s.receivers ≡ Some (pick acked k.answering k.silent)
 in-is role params s acked k = ap (found (in_key role acked)) k.receivers
     ∙ found_in role acked k.answering k.silent
 
+-- an end's sessions keep their form where another one, or none, is put by the end's own key
 pub with-session : (role : Role) (params : EndParams) (s : SessionsData) (key : SessionKey)
     (new : Option Session) → key ≡ out_key role params.acked → AreSessions role params s
     → AreSessions role params (with_session key new s)
@@ -112,6 +116,7 @@ received role params s false new k =
           ∙ put_silent role k.answering k.silent new;
     }
 
+-- an end's sessions keep their form where another receiver is put by a key of what the end takes
 pub with-reception : (role : Role) (params : EndParams) (s : SessionsData) (key : SessionKey)
     (acked : Bool) (new : Reception) → key ≡ in_key role acked → AreSessions role params s
     → AreSessions role params (with_reception key new s)
@@ -121,6 +126,8 @@ with-reception role params s key acked new e k =
 
 -- What a choice promises.
 
+-- the choice is an answer that a receiver of the end has due, or what the session by its own key
+-- has due; or it is idle
 abbrev pub IsChoiceOf : Role → EndParams → List (Entry Session) → List (Entry Reception) → Choice
     → Type 0
 IsChoiceOf role params senders receivers Idle = Unit {0}
@@ -171,6 +178,7 @@ answers-are role params senders a b rest k =
     (answer-or role params senders (receptions role a b) false b (receiver_due b.receiver) rest
     (found_in role false a b) refl k)
 
+-- what an end's sessions choose to give is such a choice, where they have their form
 pub choice-is : (role : Role) (params : EndParams) (s : SessionsData) → AreSessions role params s
     → IsChoiceOf role params s.senders s.receivers (choice s)
 unfolding choice
@@ -204,6 +212,7 @@ unfolding sends
 sends-keeps role params s key session kind None e k = k
 sends-keeps role params s key session kind (Some bytes) e k = with-session role params s key _ e k
 
+-- an end's sessions keep their form where such a choice is given
 pub next-keeps : (role : Role) (params : EndParams) (s : SessionsData) (c : Choice)
     → IsChoiceOf role params s.senders s.receivers c → AreSessions role params s
     → AreSessions role params (next_from s c).0
@@ -227,11 +236,14 @@ more role params s number k =
       receivers = k.receivers;
     }
 
+-- where an end's sessions have their form, the key by which it sends is that of its role
+-- and parameters
 pub own-key : (role : Role) (params : EndParams) (s : SessionsData) → AreSessions role params s
     → out_key s.role s.params.acked ≡ out_key role params.acked
 own-key role params s k = ap (λ r. out_key r s.params.acked) k.its_role
     ∙ ap (λ (p : EndParams). out_key role p.acked) k.its_params
 
+-- an end's sessions keep their form where a session begins
 pub begin-keeps : (role : Role) (params : EndParams) (s : SessionsData) (bits : List Bool)
     → AreSessions role params s → AreSessions role params (begin_step bits s).0
 unfolding begin_step
@@ -306,6 +318,7 @@ take-from-keeps role params s port bytes (Answers frag) sent k =
 take-from-keeps role params s port bytes Whole sent k = k
 take-from-keeps role params s port bytes Unknown sent k = k
 
+-- an end's sessions keep their form where bytes come, whatever they are and by whatever port
 pub take-keeps : (role : Role) (params : EndParams) (s : SessionsData) (port : ℕ) (bytes : List ℕ)
     → AreSessions role params s → AreSessions role params (take_step port bytes s).0
 unfolding take_step
@@ -324,6 +337,8 @@ unfolding entry
 changed-one key None = refl
 changed-one key (Some y) = refl
 
+-- where there is one entry or none, a change of the values leaves the changed one by the
+-- same key, or none
 pub changed-own : {A : Type 0} (f : A → Option A) (key : SessionKey) (o : Option A)
     → changed f (entry key o) ≡ entry key (then f o)
 unfolding changed entry
@@ -335,6 +350,7 @@ pub each-both : (f : Reception → Reception) (role : Role) (a b : Reception)
 unfolding each
 each-both f role a b = refl
 
+-- an end's sessions keep their form where a tick passes
 pub tick-keeps : (role : Role) (params : EndParams) (s : SessionsData) → AreSessions role params s
     → AreSessions role params (tick_step s).0
 unfolding tick_step
@@ -360,6 +376,7 @@ unfolding aborted_from
 aborted-keeps role params s key None e k = k
 aborted-keeps role params s key (Some session) e k = with-session role params s key _ e k
 
+-- an end's sessions keep their form where the end gives up the one that it sends
 pub abort-keeps : (role : Role) (params : EndParams) (s : SessionsData) → AreSessions role params s
     → AreSessions role params (abort_step s).0
 unfolding abort_step

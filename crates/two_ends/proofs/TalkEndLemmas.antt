@@ -45,6 +45,7 @@ answers-none (x ∷ xs) rest k =
 abbrev pub rest_of : EndData → Given
 rest_of end = given_by end (turn_from end (message_choice end.sessions.senders))
 
+-- where no receiver of the end has an answer due, what it gives comes of its sessions and its queue
 pub no-answer : (end : EndData) → NoAnswers end.sessions.receivers → gives_of end ≡ rest_of end
 unfolding turn choice
 no-answer end k =
@@ -69,6 +70,7 @@ none-due end (x ∷ xs) rest e =
     let more = none-due end xs rest first.1 in
     ((first.0, more.0), more.1)
 
+-- an end that gives nothing at its slot has neither an answer due nor anything else
 pub rested-silent : (end : EndData) → gives_of end ≡ NoFrame →
     NoAnswers end.sessions.receivers × (rest_of end ≡ NoFrame)
 unfolding turn choice
@@ -76,6 +78,8 @@ rested-silent end e = none-due end end.sessions.receivers (message_choice end.se
 
 -- The end that sends: this session alone is under way or quiet, and nothing else is due.
 
+-- the end has this session, by this key, and no other; nothing waits, and no receiver of it
+-- has an answer due
 pub record Speaks (id : SessionKey) (session : Session) (end : EndData) : Type 0 where
   pub senders : end.sessions.senders ≡ entry id (Some session)
   pub nothing_waits : end.queue ≡ []
@@ -97,6 +101,7 @@ message-given : (end : EndData) (id : SessionKey) (session : Session) (bytes : L
 unfolding turn_from given_by chosen goes_if
 message-given end id session bytes = refl
 
+-- the end that sends gives at its slot the message that the session has due, while it is sending
 pub gives-message : (id : SessionKey) (session : Session) (end : EndData) (bytes : List ℕ) →
     Speaks id session end → sender_phase session.sender ≡ phase.Sending →
     sender_due session.sender ≡ Some bytes → gives_of end ≡ Goes id session bytes
@@ -121,6 +126,7 @@ idle-nothing end e =
     (may_begin end.sessions) (slice_get queue 0))) e
     ∙ idle-rests end (busy_in end.sessions.senders)
 
+-- the end that sends gives nothing at its slot where the session is quiet
 pub gives-nothing : (id : SessionKey) (session : Session) (end : EndData) → Speaks id session end →
     sender_phase session.sender ≡ phase.Quiet → gives_of end ≡ NoFrame
 gives-nothing id session end k quiet =
@@ -160,6 +166,8 @@ heard-taken id session end message ticks (Some other) e same k =
     the-same : Some other ≡ Some session → other ≡ session
     the-same e = cc
 
+-- the end that sends has, after an answer by the key, the session that has heard it, and
+-- nothing else due
 pub speaks-heard : (id : SessionKey) (session : Session) (end : EndData)
     (reading : Result Message WireFault) (ticks : TimerTicks) → end.sessions.params.ticks ≡ ticks →
     Speaks id session end →
@@ -185,6 +193,7 @@ pub record Listens (role : Role) (acked : Bool) (known : EditionData) (r : Recep
   pub rests : rest_of end ≡ NoFrame
   pub knows : end.known ≡ known
 
+-- the end that takes has this reception by the key of what it takes
 pub listens-found : (role : Role) (acked : Bool) (known : EditionData) (r : Reception)
     (end : EndData) → Listens role acked known r end →
     found (in_key role acked) end.sessions.receivers ≡ Some r
@@ -207,6 +216,7 @@ answer-given : (end : EndData) (id : SessionKey) (r : Reception) (bytes : List �
 unfolding turn_from given_by chosen
 answer-given end id r bytes = refl
 
+-- the end that takes gives at its slot the answer that the receiver has due
 pub gives-answer : (role : Role) (acked : Bool) (known : EditionData) (r : Reception)
     (end : EndData) (bytes : List ℕ) → Listens role acked known r end →
     receiver_due r.receiver ≡ Some bytes → gives_of end ≡ Answers (in_key role acked) r bytes
@@ -227,6 +237,7 @@ silent-both : (role : Role) (acked : Bool) (answering silent : Reception) →
 silent-both role true answering silent due none = (due, (none, tt))
 silent-both role false answering silent due none = (none, (due, tt))
 
+-- the end that takes gives nothing at its slot where the receiver has no answer due
 pub gives-rest : (role : Role) (acked : Bool) (known : EditionData) (r : Reception)
     (end : EndData) → Listens role acked known r end → receiver_due r.receiver ≡ None →
     gives_of end ≡ NoFrame
@@ -313,6 +324,7 @@ took-fragment role acked known r end message bytes ticks (Some other) e same k =
     the-same : Some other ≡ Some r → other ≡ r
     the-same e = cc
 
+-- the end that takes has, after a message by the key, the receiver that has taken it
 pub listens-took : (role : Role) (acked : Bool) (known : EditionData) (r : Reception)
     (end : EndData) (bytes : List ℕ) (reading : Result Message WireFault) (ticks : TimerTicks) →
     end.sessions.params.ticks ≡ ticks → Listens role acked known r end →

@@ -93,6 +93,7 @@ answered-of params bits m ticks t (Some bytes) k =
       mode_is = answered-mode t.reception.receiver ∙ k.mode_is;
     }
 
+-- after a round the session is still that of these bits, and the receiver still one of its mode
 pub round-of : (params : LaneParams) (bits : List Bool) (m : FragMode) (ticks : TimerTicks)
     (t after : Talk) (joined : Option (List Bool)) (sent told : Option ReportKind) →
     IsRound m ticks t joined sent told after → IsTalkOf params bits t → IsTalkOf params bits after
@@ -237,6 +238,7 @@ reading-all1 params bits t bytes packet (Ok message) k due read joins =
     previewed-all1 params bits t.session.sender t.reception.receiver bytes message
     (payload_in message (octets bytes)) packet k.sender k.mode_is due read joins
 
+-- where the message that the session has due joins a packet at the receiver, it is read as an All-1
 pub joins-all1 : (params : LaneParams) (bits : List Bool) (t : Talk) (bytes : List ℕ)
     (packet : List Bool) → IsTalkOf params bits t → sender_due t.session.sender ≡ Some bytes →
     joined_reading bytes t.reception.receiver (reading_in params.frag.mode side.Fragments bytes) ≡

@@ -76,9 +76,11 @@ use Rattle.two_ends.proofs.WorldLemmas.{given_world}
 abbrev pub own_id : EndParams → Role → SessionKey
 own_id params role = out_key role params.acked
 
+-- the key by which the end sends, with the direction of its fragments
 abbrev pub own_lane : EndParams → Role → Key
 own_lane params role = sent_key role (own_id params role)
 
+-- the end that takes what this end sends
 abbrev pub reader : Role → Role
 reader role = taker (sent_direction role)
 
@@ -210,6 +212,8 @@ ups_of params g role m =
     handed g (sent_direction role) (marked_frame (MessageOf (own_lane params role) m))
     (option_map label.Session (came g (own_lane params role) m).session)
 
+-- the message that has gone is delivered: the session has sent it, the receiver has taken it, and
+-- the logs have what it hands up, and what is reported of the session
 pub out-taken : (params : EndParams) (h g : History) (role : Role) (known : EditionData) (place : ℕ)
     (begins : List Began) (t : Talk) (bytes : List ℕ) →
     (o : IsOut params h role t.session bytes place begins g) →
@@ -460,6 +464,8 @@ due-answered params f role known place t bytes k due =
     label : session_of key g.logs.begins ≡ Some place
     label = ap (session_of key) (append-nil f.logs.begins) ∙ k.label
 
+-- after a slot of the other end, and its frame delivered, the session has heard the answer that was
+-- due, if one was, and nothing was handed up
 pub answered : (params : EndParams) (f : History) (role : Role) (known : EditionData) (place : ℕ)
     (t : Talk) (o : Option (List ℕ)) → receiver_due t.reception.receiver ≡ o →
     IsTalking params f role known place t →

@@ -173,9 +173,12 @@ pub record IsCarriedUp (iids : Iids) (h : History) (up : HandedUp) : Type 0 wher
   pub labelled : up.label ≡ Some (label.Whole place)
   pub led : IsLed iids h up
 
+-- a packet that was handed up was carried whole by a frame, or read from an assembly
+-- whose check passed
 abbrev pub IsUpKept : Iids → History → HandedUp → Type 0
 IsUpKept iids h up = IsCarriedUp iids h up ⊎ IsJoinedUp iids h up
 
+-- each packet that was handed up came in one of these ways
 abbrev pub UpsKept : Iids → History → Type 0
 UpsKept iids h = AllByRecursion (IsUpKept iids h) h.logs.ups
 
@@ -251,6 +254,7 @@ form-begins iids h direction form w c =
     carried-frame_of form
     (subst BeginsWithId (sym c.is_form) (packed-begins c.writer iids w.direction w.packet))
 
+-- the RuleID under which a packet was written is a port of whole packets at either end
 pub form-whole : (iids : Iids) (h : History) (direction : Direction) (role : Role) (form : Packed)
     (w : HandedDown) → ChainKept h.world.chain → (c : IsFormOf iids h direction form w)
     → meaning_of role form.rule_id ≡ meaning.Whole
@@ -394,6 +398,7 @@ pub other-taker : (w : Direction) → taker (other_direction w) ≡ sender w
 other-taker way.Up = refl
 other-taker way.Down = refl
 
+-- the end that sends a key's fragments hands nothing up by a message of the key
 pub answer-up : (params : EndParams) (h : History) (key : Key) (m : Msg) (u : HandUpData)
     → EndsKept params h.world → IsLinkKey key
     → HandsUp (end_of h.world (sender key.way)) (marked_frame (MessageOf key m)) u → ⊥
@@ -467,6 +472,7 @@ comes-coming iids h direction (Some (WholeFrame place frame)) k = k (WholeFrame 
 comes-coming iids h direction (Some (MessageOf key m)) k =
     message-coming iids h key m (same_way direction key.way) (k (MessageOf key m) refl)
 
+-- where what all marks say is so, it is so for the one of the frame with this number in a direction
 pub marked-at : (iids : Iids) (h : History) (direction : Direction) (number : ℕ) (mark : Mark)
     → MarksKeep iids h h.labels.sent
     → numbered (at_direction h.labels.sent direction) number ≡ Some mark

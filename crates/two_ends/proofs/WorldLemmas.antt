@@ -139,6 +139,7 @@ comes-nothing direction (Some (WholeFrame place frame)) = tt
 comes-nothing direction (Some (MessageOf key m)) =
     message-nothing key m (same_way direction key.way)
 
+-- by an event that isn't a slot no frame is given
 pub event-gives : (h : History) (event : Event) → IsNoSlot event → GivesNothing (happening h event)
 unfolding happening_in
 event-gives h (Down role packet) n =
@@ -152,6 +153,7 @@ event-gives h (Publish raw) n = tt
 event-gives h (Offer role number) n = tt
 event-gives h (Allow role number) n = tt
 
+-- where no frame is given, the marks of the frames that were sent are as they were
 pub sent-same : (h : History) (x : Happening) → GivesNothing x → sent_after h x ≡ h.labels.sent
 unfolding sent_after
 sent-same h Nothing n = refl
@@ -163,6 +165,7 @@ sent-same h (Answer key m) n = refl
 sent-same h (Ticks target) n = refl
 sent-same h (GivesUp role id) n = refl
 
+-- where no frame is given, no session begins
 pub begins-same : (h : History) (x : Happening) → GivesNothing x → begins_after h x ≡ h.logs.begins
 unfolding begins_after
 begins-same h Nothing n = refl
@@ -180,6 +183,7 @@ LeavesQueues (Gives role given) = ⊥
 LeavesQueues (Waits role packet accepted) = ⊥
 LeavesQueues happening = Unit {0}
 
+-- where no packet is handed down and no frame is given, the same packets wait
 pub queued-same : (h : History) (x : Happening) → LeavesQueues x
     → queued_after h x ≡ h.labels.queued
 unfolding queued_after
@@ -197,6 +201,7 @@ unfolding message_comes
 message-leaves key m true = tt
 message-leaves key m false = tt
 
+-- a frame that arrives, or isn't there, leaves the queues as they were
 pub comes-leaves : (direction : Direction) (o : Option Mark) → LeavesQueues (comes_if direction o)
 unfolding comes_if
 comes-leaves direction None = tt
@@ -211,6 +216,7 @@ given_world w role given =
     let s : EndData × Option Emitted = given_step (end_of w role) given in
     with_sent (with_end w role s.0) role s.1
 
+-- what the end gives at a slot now
 abbrev pub gives_at : History → Role → Given
 gives_at h role = given_by (end_of h.world role) (turn (end_of h.world role))
 
@@ -265,6 +271,7 @@ slot-marked h role given k =
     (sym (given-frames h role (at_direction h.world.frames direction) given))
     (pushed h.world.frames h.labels.sent direction (marks_given h role given) k)
 
+-- at the beginning each frame is that of its mark: none was sent
 pub marked-start : (params : EndParams)
     → FramesMarked (start params).world.frames (start params).labels.sent
 marked-start params way.Up = refl
@@ -279,6 +286,7 @@ other-marked h event n k =
     (subst (FramesMarked h.world.frames)
     (sym (sent-same h (happening h event) (event-gives h event n))) k)
 
+-- every event keeps that each frame is that of its mark
 pub marked-step : (h : History) (event : Event) → FramesMarked h.world.frames h.labels.sent
     → FramesMarked (next h event).world.frames (next h event).labels.sent
 unfolding after

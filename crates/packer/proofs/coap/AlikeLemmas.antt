@@ -27,6 +27,7 @@ pub record IsAlike (f g : FieldValue) : Type 0 where
   pub wide : length f.value ≡ length g.value
   pub value : is_needed f.at.name ≡ true → f.value ≡ g.value
 
+-- as many fields in both lists, each alike to the one at its place in the other
 abbrev pub AreAlike : List FieldValue → List FieldValue → Type 0
 AreAlike [] [] = Unit {0}
 AreAlike [] (g ∷ gs) = ⊥

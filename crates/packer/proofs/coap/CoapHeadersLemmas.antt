@@ -29,6 +29,8 @@ message-none headers Memory read r other = absurd (cc)
 message-none headers (NotCoap place) read r other = ap (with_message headers) (sym r)
 message-none headers _ read r other = absurd r
 
+-- a packet with these fields of UDP is split with CoAP as its datagram is read: into them and the
+-- fields of the message, or not at all where that is none
 pub headers-there : (direction : Direction) (packet : List ℕ) (headers : SplitData)
     → FieldsOf stack.IpUdp direction packet headers.fields headers.payload_from
     → split_of stack.IpUdpCoap direction packet ≡ with_message headers (message_in (drop 48 packet))

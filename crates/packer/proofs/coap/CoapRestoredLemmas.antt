@@ -101,6 +101,7 @@ coap_there m name (suc (suc (suc (suc zero))), b, e) =
     (field CoapMid (number_bits 16 m.id), (4, omega arith, refl), e)
 coap_there m name (suc (suc (suc (suc (suc k)))), b, e) = absurd (omega (arith, b))
 
+-- a packet with a CoAP message is one of UDP too, whose payload begins at byte 48
 pub udp-of : (direction : Direction) (packet : List ℕ) (fields : List FieldValue) (from : ℕ)
     → IsCoapPacket direction packet fields from
     → FieldsOf stack.IpUdp direction packet (fields_in stack.IpUdp direction packet) 48

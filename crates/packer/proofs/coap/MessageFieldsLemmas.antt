@@ -162,6 +162,7 @@ unfolding fields_in fields_of_message
 tkl_value Up packet m = refl
 tkl_value Down packet m = refl
 
+-- the token length field of a packet with the message says 8 bits for each byte of its token
 pub message-token_bits : (direction : Direction) (packet : List ℕ) (m : Message) → IsMessage m
     → token_bits (fields_in stack.IpUdp direction packet ++ fields_of_message m) ≡ 8 * length
     m.token

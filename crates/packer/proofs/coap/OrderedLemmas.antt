@@ -19,10 +19,12 @@ refusal-order fields h =
     (append-none (presence fields coap_fields)
     (order 0 0 fields ++ (value_refusals fields ++ gaps 0 0 fields)) h).1).0
 
+-- the fields of a message stand in packet order
 pub message-ascends : (m : Message) → IsMessage m → AscendsAfter 0 0 (fields_of_message m)
 message-ascends m h =
     ascends-order 0 0 (fields_of_message m)
     (refusal-order (fields_of_message m) (message-joins m h))
 
+-- no two fields of a message have the same name and position
 pub message-once : (m : Message) → IsMessage m → AllPairs (λ f g. f.at ≢ g.at) (fields_of_message m)
 message-once m h = ascends-once 0 0 (fields_of_message m) (message-ascends m h)

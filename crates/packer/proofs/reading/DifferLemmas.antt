@@ -439,6 +439,8 @@ module _ (rule : RuleData) (iids : Iids) (direction : Direction) (packet restore
         (dropped-entry e.0 e.1
         (λ same. differs (new-value f e.0 among e.1 e.2 ∙ same ∙ ap (value_of r.fields) e.2)))
 
+-- where an admitted rule matches, a field of the restored packet has another value than the
+-- packet's only if the rule drops it in the direction
 pub differs_only_where_dropped : DiffersOnlyWhereDropped
 differs_only_where_dropped rule iids direction packet restored admitted a b m r f among differs =
     differs-dropped rule iids direction packet restored admitted a b m r f among differs

@@ -44,6 +44,7 @@ pub lossy-parts : (operator : Operator) (action : Action) → is_lossy operator 
 lossy-parts Ignore NotSent h = (refl, refl)
 lossy-parts _ _ h = absurd (false≢true h)
 
+-- the action that computes is Compute
 pub is_compute-true : (action : Action) → is_compute action ≡ true → action ≡ Compute
 is_compute-true Compute h = refl
 is_compute-true _ h = absurd (false≢true h)
@@ -90,6 +91,7 @@ lossy-checksum e h =
     ap (λ a. same_name e.name UdpChecksum && is_compute a) (lossy-parts e.operator e.action h).1
     ∙ none (same_name e.name UdpChecksum)
 
+-- what Compute may make, but for the UDP checksum, is the payload length or the UDP length
 pub computed_names : (name : FieldName) → is_computed_by Compute name ≡ true
     → same_name name UdpChecksum ≡ false
     → (same_name name IpPayloadLength || same_name name UdpLength) ≡ true
@@ -129,6 +131,7 @@ length-computed of packet name among h =
           ∙ udp_computed of packet (subst (Contains (fields_of_stack of)) is among)
     ]
 
+-- where an entry computes its field, a value that agrees with it is the computed number in 16 bits
 pub compute-made : (iids : Iids) (computed : Computed) (e : EntryData) (value : List Bool)
     (number : ℕ) → is_compute e.action ≡ true → computed_value computed e.name ≡ Some number
     → RestoredHolds iids computed e.name e.action value → value ≡ number_bits 16 number

@@ -5,6 +5,7 @@ use Rattle.packer.specs.Laws.{OneRestoredPacket}
 use Rattle.packer.proofs.rebuilt.ChecksumLemmas.{AreBytes-drop}
 use Rattle.packer.proofs.reading.ReadBackLemmas.{read-back, restored-one}
 
+-- an admitted rule has one restored packet of each packet that it matches, and no other
 pub one_restored_packet : OneRestoredPacket
 one_restored_packet rule iids direction packet admitted bytes m =
     let back =

@@ -233,6 +233,8 @@ name-same of direction this that n named sums among =
       | inr f ↦ others-same this that direction n named f
     ]
 
+-- two packets of a stack without CoAP are one where their payloads are the same, and each field of
+-- both is what the other end has for one value of one entry
 pub one-of : (of : Stack) (direction : Direction) (this that : List ℕ) (f g : List FieldValue)
     (here there : ℕ) → FieldsOf of direction this f here → FieldsOf of direction that g there
     → drop here this ≡ drop there that → AreBytes this → AreBytes that

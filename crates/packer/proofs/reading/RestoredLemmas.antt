@@ -75,6 +75,7 @@ value_refusals_by stack.IpUdp a b size w h =
     refl
 value_refusals_by stack.IpUdpCoap a b size w h = absurd w
 
+-- the fields of a packet under these names are of these names in their order, each at position 1
 pub ats : (direction : Direction) (packet : List ℕ) (names : List FieldName)
     → map (λ (f : FieldValue). f.at) (map (field_in direction packet) names) ≡ map at_name names
 ats direction packet [] = refl

@@ -83,6 +83,8 @@ nothing edition iids direction bits fault (inr is) e packet id d =
     sym (complete edition iids direction bits packet id is d) ∙ e in
     absurd (cc)
 
+-- where reading fails, memory is wanting or the bits aren't read as any packet: with a sound
+-- edition, or where they are fewer than 8
 pub none-read : (edition : EditionData) (iids : Iids) (direction : Direction) (bits : List Bool)
     (fault : UnpackFault) → (length bits < 8) ⊎ IsSound edition → (fault ≡ Memory)
     ⊎ (unpacked edition iids direction bits ≡ Err fault) → (fault ≡ Memory)
@@ -128,6 +130,7 @@ says-result edition iids direction bits (Ok read) is options e =
     says-read edition iids direction bits read is options e
 says-result edition iids direction bits (Err fault) is options e = tt
 
+-- a packet that is read has at most 65,575 bytes, or no more than there are whole bytes in the bits
 pub bound-result : (edition : EditionData) (iids : Iids) (direction : Direction) (bits : List Bool)
     (r : Result UnpackedData UnpackFault) → (length bits < 8) ⊎ IsSound edition
     → IfOk r (λ read. HasOptionsUnder edition direction read.rule_id)

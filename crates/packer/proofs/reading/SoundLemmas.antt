@@ -139,6 +139,7 @@ compute_sends : (action : Action) (kind : Length) (operator : Operator) (targets
 compute_sends Compute kind operator targets this that h = refl
 compute_sends _ kind operator targets this that h = absurd (false≢true h)
 
+-- what is computed for the UDP checksum, in a stack that has it, is the checksum of the packet
 pub checksum_computed : (of : Stack) (packet : List ℕ) → Contains (fields_of_stack of) UdpChecksum
     → computed_value (computed_over of packet) UdpChecksum ≡ Some (checksum_of packet)
 checksum_computed stack.Ip packet among =

@@ -124,6 +124,8 @@ own_restored rule iids direction packet m nothing =
           (not_lossy rule direction e nothing among);
     }
 
+-- where an admitted rule that matches a packet drops nothing in the direction, the other end
+-- restores that packet
 pub keeps_where_nothing_is_dropped : KeepsWhereNothingIsDropped
 keeps_where_nothing_is_dropped rule iids direction packet restored admitted a b m nothing r =
     restored-one rule iids direction packet m.fields m.payload_from m.is_packet m.matches restored

@@ -177,6 +177,7 @@ id-small rule admitted =
     or_parts (rule.id == 0) (nat_lt 223 rule.id) (no_row rule kind.IdOutOfRange admitted) in
     omega (arith, ltb-false 223 rule.id parts.1)
 
+-- the RuleID of an admitted rule isn't that of packets that no rule compresses
 pub id-compressed : (rule : RuleData) → IsAdmitted rule → (rule.id == uncompressed_port) ≡ false
 id-compressed rule admitted =
     let a = or_parts ((rule.id == 20) || (rule.id == 21) || (rule.id == 22) || (rule.id == 222))
@@ -368,6 +369,7 @@ complete-by edition iids direction bits packet id listed s bytes found d =
     is.1
     ∙ ap (λ (x : List ℕ). Ok (let u : UnpackedData = record { rule_id = id; packet = x } in u)) same
 
+-- the packet that the bits say, with a sound edition, is read, and under the RuleID that they say
 pub complete : (edition : EditionData) (iids : Iids) (direction : Direction) (bits : List Bool)
     (packet : List ℕ) (id : ℕ) → IsSound edition → Decodes edition iids direction bits packet id
     → unpacked edition iids direction bits ≡ Ok (record { rule_id = id; packet = packet })
@@ -398,6 +400,8 @@ options-whole edition direction id s same listed found =
     (sym (eq-eqb listed.rule.id uncompressed_port (is.1 ∙ same))
     ∙ id-compressed listed.rule admitted))
 
+-- what is read is what the bits say, and all that they say is read: with a sound edition whose
+-- options have numbers and positions of 16 bits
 pub unpacks_exactly : UnpacksExactly
 unpacks_exactly edition iids direction bits read s options = (
   sound edition iids direction bits read s

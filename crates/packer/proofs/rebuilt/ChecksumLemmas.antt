@@ -60,6 +60,7 @@ values-split direction values =
     ∙ ap (λ (bits : List Bool). values_in direction (listed stack.IpUdp direction values)
     front_names ++ bits) (last_value direction values)
 
+-- another checksum leaves the bits of the fields in front of it as they are
 pub front-same : (direction : Direction) (checksum : ℕ) (values : FieldName → List Bool)
     → values_in direction (listed stack.IpUdp direction (summed checksum values))
     front_names ≡ values_in direction (listed stack.IpUdp direction values) front_names
@@ -152,11 +153,13 @@ pub AreBytes-append : (front back : List ℕ) → AreBytes front → AreBytes ba
 AreBytes-append [] back a b = b
 AreBytes-append (byte ∷ front) back a b = (a.0, AreBytes-append front back a.1 b)
 
+-- the first so many of bytes are bytes
 pub AreBytes-take : (count : ℕ) (bytes : List ℕ) → AreBytes bytes → AreBytes (take count bytes)
 AreBytes-take zero bytes a = tt
 AreBytes-take (suc count) [] a = tt
 AreBytes-take (suc count) (byte ∷ bytes) a = (a.0, AreBytes-take count bytes a.1)
 
+-- and so are those that follow them
 pub AreBytes-drop : (count : ℕ) (bytes : List ℕ) → AreBytes bytes → AreBytes (drop count bytes)
 AreBytes-drop zero bytes a = a
 AreBytes-drop (suc count) [] a = tt
@@ -169,6 +172,7 @@ AreBytes-with_checksum packet a =
     (AreBytes-take 46 packet a)
     (omega arith, (omega arith, AreBytes-drop 48 packet a))
 
+-- values that have the widths of the fields of UDP have them with another checksum too
 pub summed_wide : (checksum : ℕ) (values : FieldName → List Bool) → AreWide stack.IpUdp values
     → AreWide stack.IpUdp (summed checksum values)
 summed_wide checksum values
@@ -277,6 +281,7 @@ length-with_checksum packet l =
     length-append (take 46 packet) (two_bytes (checksum_of packet) ++ drop 48 packet)
     ∙ omega (arith, length-take-le 46 packet (omega (arith, l)), length-drop 48 packet)
 
+-- the checksum of a packet of 48 bytes or more is the same when it is made anew in its place
 pub checksum-with_checksum : (packet : List ℕ) → 48 ≤ length packet
     → checksum_of (with_checksum packet) ≡ checksum_of packet
 checksum-with_checksum packet l =

@@ -37,6 +37,7 @@ first_held-map f [] = refl
 first_held-map f ((true, x) ∷ conditions) = refl
 first_held-map f ((false, x) ∷ conditions) = first_held-map f conditions
 
+-- the first value of the headers that is wrong is what their tests find, as a fault of the packet
 pub header_tests-some : (of : Stack) (fields : List FieldValue) (size : ℕ) (fault : JoinFault)
     (why : UnpackFault) → Some fault ≡ first_held (value_refusals of fields size)
     → why ≡ wrong_field fault → Some why ≡ first_held (header_tests of fields size)
@@ -44,6 +45,7 @@ header_tests-some of fields size fault why e w =
     ap Some w ∙ ap (option_map wrong_field) e
     ∙ sym (first_held-map wrong_field (value_refusals of fields size))
 
+-- where there is no fault of the packet, there was none of joining
 pub none_of : (o : Option JoinFault) → option_map wrong_field o ≡ None → o ≡ None
 none_of None e = refl
 none_of (Some fault) e = absurd (cc)
@@ -56,6 +58,7 @@ value_refusals-none of fields size e =
     none_of (first_held (value_refusals of fields size))
     (sym (first_held-map wrong_field (value_refusals of fields size)) ∙ e)
 
+-- where the values of the headers are right, their tests find nothing wrong
 pub header_tests-none : (of : Stack) (fields : List FieldValue) (size : ℕ)
     → first_held (value_refusals of fields size) ≡ None
     → first_held (header_tests of fields size) ≡ None
@@ -136,11 +139,15 @@ message_tests-front fields fault why f w =
     (first_held-append_some (front_tests fields) (message_refusals (message_fields fields)) fault f)
     ∙ ap Some (sym w)
 
+-- where the headers in front of a CoAP message are right, and the message but for the sizes of its
+-- options, their tests find nothing wrong
 pub message_tests-none : (fields : List FieldValue) → first_held (front_tests fields) ≡ None
     → first_held (message_refusals (message_fields fields)) ≡ None
     → first_held (message_tests stack.IpUdpCoap fields) ≡ None
 message_tests-none fields f m = message_tests-behind fields f ∙ ap (option_map wrong_field) m
 
+-- with CoAP, where nothing is wrong with the message, the packet is made of the headers and the
+-- message behind them, or has their first fault
 pub coap_made : (rule : RuleData) (direction : Direction) (fields : List FieldValue)
     (payload message : List ℕ) → stack_of rule ≡ stack.IpUdpCoap
     → first_held (message_tests stack.IpUdpCoap fields) ≡ None

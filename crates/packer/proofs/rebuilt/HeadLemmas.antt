@@ -73,6 +73,8 @@ head_entered rule direction name admitted s among =
     (same_name-itself name)) in
     (some.0, some.1, first_position some.0 holds.shape (ap is_option is ∙ option) ∙ ap at_name is)
 
+-- an admitted rule that serves the direction has an entry for each field of its headers at fixed
+-- places
 pub Heads-from_reads : (rule : RuleData) (direction : Direction) → IsAdmitted rule
     → reads rule direction ≡ true → Heads rule direction
 Heads-from_reads rule direction admitted h =
@@ -82,6 +84,8 @@ Heads-from_reads rule direction admitted h =
           λ name among. head_entered rule direction name admitted h among;
     }
 
+-- the filled-in field of an entry has its restored value, or where it is a computed length the true
+-- one
 pub heads-value : (rule : RuleData) (direction : Direction) (fields : List FieldValue) (size : ℕ)
     (e : EntryData) → Heads rule direction → Contains (covered rule direction) e
     → value_of (filled_headers rule direction fields size) (field_of e) ≡ filled_value
@@ -92,6 +96,7 @@ heads-value rule direction fields size e heads among =
     (λ d. filled_value (size_after (stack_of rule) size) d (value_of fields (field_of d))) e
     heads.apart among
 
+-- each field of the headers at fixed places is found by its name among the filled-in fields
 pub heads-found : (rule : RuleData) (direction : Direction) (fields : List FieldValue) (size : ℕ)
     → Heads rule direction
     → AreFound (fixed_headers (stack_of rule)) (header_values rule direction fields size)
@@ -109,6 +114,7 @@ heads-found rule direction fields size heads =
     (Contains-map (filled_field (size_after (stack_of rule) size) fields)
     (covered rule direction) e.0 e.1) e.2)
 
+-- each of the restored fields at fixed places has its width, with computed lengths filled in
 pub heads-wide : (rule : RuleData) (direction : Direction) (fields : List FieldValue) (size : ℕ)
     → Heads rule direction → AreRestored rule direction fields
     → AreWide (fixed_headers (stack_of rule)) (header_values rule direction fields size)

@@ -33,9 +33,11 @@ abbrev pub AreFound : Stack → (FieldName → List Bool) → List FieldValue �
 AreFound of values fields =
     AllByRecursion (λ n. value_in fields n ≡ Some (values n)) (fields_of_stack of)
 
+-- for each name of the stack a value of as many bits as its field has
 abbrev pub AreWide : Stack → (FieldName → List Bool) → Type 0
 AreWide of values = AllByRecursion (λ n. length (values n) ≡ bits_of n) (fields_of_stack of)
 
+-- among fields listed with these values each name of a stack without CoAP is found with its own
 pub found-listed : (of : Stack) (direction : Direction) (values : FieldName → List Bool)
     → IsWithoutCoap of → AreFound of values (listed of direction values)
 found-listed stack.Ip Up values h =
@@ -105,6 +107,7 @@ header_bits-same of direction v a b h f g =
     (mirror (λ n. value_of a n ≡ value_of b n) of direction h
     (same_values v a b (fields_of_stack of) f g))
 
+-- fields with the same values by name, of a stack without CoAP, meet the same conditions on values
 pub value_refusals-same : (of : Stack) (v : FieldName → List Bool) (a b : List FieldValue)
     (size : ℕ) → IsWithoutCoap of → AreFound of v a → AreFound of v b
     → value_refusals of a size ≡ value_refusals of b size
@@ -149,6 +152,8 @@ joined-listed of direction v fields payload h f =
     (header_bits-same of direction v fields (listed of direction v) h f
     (found-listed of direction v h))
 
+-- values of the right widths, of which none is wrong, are joined with the payload to a packet of a
+-- stack without CoAP, and are its fields
 pub joined-packet : (of : Stack) (direction : Direction) (v : FieldName → List Bool)
     (fields : List FieldValue) (payload : List ℕ) → IsWithoutCoap of → AreFound of v fields
     → AreWide of v → first_held (value_refusals of fields (length payload)) ≡ None
@@ -166,6 +171,7 @@ joined-packet of direction v fields payload h f wide right =
     (header_size of)) (sym (joined-listed of direction v fields payload h f))
     (joined-fields of direction (listed of direction v) payload h none)
 
+-- and behind its headers stands the payload
 pub joined-rest : (of : Stack) (direction : Direction) (v : FieldName → List Bool)
     (fields : List FieldValue) (payload : List ℕ) → IsWithoutCoap of → AreFound of v fields
     → AreWide of v → first_held (value_refusals of fields (length payload)) ≡ None
@@ -182,6 +188,7 @@ joined-rest of direction v fields payload h f wide right =
     (joined-listed of direction v fields payload h f)
     ∙ joined-payload of direction (listed of direction v) payload h none
 
+-- headers joined with a payload of bytes are bytes
 pub AreBytes-joined : (of : Stack) (direction : Direction) (fields : List FieldValue)
     (payload : List ℕ) → AreBytes payload
     → AreBytes (headers_and_payload of direction fields payload)

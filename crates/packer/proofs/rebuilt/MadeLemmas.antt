@@ -76,6 +76,7 @@ pub record HasValues (of : Stack) (direction : Direction) (values : FieldName �
   pub its_payload : drop (header_size of) packet ≡ payload
   pub bytes : AreBytes packet
 
+-- the packet, with its UDP checksum made anew where that is computed
 abbrev pub summed_if : Bool → List ℕ → List ℕ
 summed_if computes packet = if computes then with_checksum packet else packet
 
@@ -150,6 +151,8 @@ made_plain of direction values payload h w right b =
       bytes = AreBytes-joined of direction (listed of direction values) payload b;
     }
 
+-- values of the right widths, of which none is wrong, make with the payload a packet that has them,
+-- and the checksum of the packet where that is computed
 pub made_values : (of : Stack) (direction : Direction) (computes : Bool)
     (values : FieldName → List Bool) (payload : List ℕ) → IsWithoutCoap of
     → (computes ≡ true → of ≡ stack.IpUdp) → AreWide of values
@@ -187,10 +190,12 @@ pub record IsMade (rule : RuleData) (direction : Direction) (fields : List Field
       value_of its_fields (field_of e) ≡ made_value (checksum_of packet) (length packet - 40) e
       (value_of fields (field_of e))
 
+-- nothing holds together with what doesn't
 pub and_false : (a : Bool) → (a && false) ≡ false
 and_false true = refl
 and_false false = refl
 
+-- what holds besides changes nothing
 pub and_true : (a : Bool) → (a && true) ≡ a
 and_true true = refl
 and_true false = refl
@@ -232,11 +237,13 @@ checksum-choice rule direction e covers among =
       | inr f ↦ rw f (and_false (computes_checksum rule direction))
     ]
 
+-- one choice within another, where both else are the same, is the choice of both together
 pub chosen : (a b : Bool) (x y : List Bool)
     → (if a then (if b then x else y) else y) ≡ (if a && b then x else y)
 chosen true b x y = refl
 chosen false b x y = refl
 
+-- without CoAP, as many bytes follow the IPv6 header as the payload has, and with UDP 8 more
 pub size_of_payload : (of : Stack) (size all : ℕ) → IsWithoutCoap of → header_size of ≤ all
     → size ≡ all - header_size of → size_after of size ≡ all - 40
 size_of_payload stack.Ip size all h l e = e

@@ -13,16 +13,19 @@ use Rattle.packer.specs.Unpacking.{body_of, fixed_headers, filled_headers, opera
 use Rattle.packer.specs.Unpacking.{checksummed, headers_and_payload, packet_around, packet_of}
 use Rattle.packer.specs.Rebuilding.{message_tests, header_tests}
 
+-- a stack that is IPv6 alone, or with UDP, is without CoAP
 pub without-of : (it of : Stack) → it ≡ of → (it ≡ stack.Ip) ⊎ (it ≡ stack.IpUdp) → IsWithoutCoap of
 without-of it of e (inl h) = subst IsWithoutCoap (sym h ∙ e) tt
 without-of it of e (inr h) = subst IsWithoutCoap (sym h ∙ e) tt
 
+-- without CoAP, the payload alone follows the headers at fixed places
 pub body-plain : (of : Stack) (fields : List FieldValue) (payload : List ℕ) → IsWithoutCoap of
     → body_of of fields payload ≡ payload
 body-plain stack.Ip fields payload h = refl
 body-plain stack.IpUdp fields payload h = refl
 body-plain stack.IpUdpCoap fields payload h = absurd h
 
+-- without CoAP, there is no message to be tested
 pub faults-plain : (of : Stack) (fields : List FieldValue) → IsWithoutCoap of
     → message_tests of fields ≡ []
 faults-plain stack.Ip fields h = refl
@@ -40,12 +43,15 @@ fixed-without stack.Ip = tt
 fixed-without stack.IpUdp = tt
 fixed-without stack.IpUdpCoap = tt
 
+-- the values of headers in front of a CoAP message have to be what they have to be with UDP alone
 pub value_refusals-fixed : (of : Stack) (fields : List FieldValue) (size : ℕ)
     → value_refusals (fixed_headers of) fields size ≡ value_refusals of fields size
 value_refusals-fixed stack.Ip fields size = refl
 value_refusals-fixed stack.IpUdp fields size = refl
 value_refusals-fixed stack.IpUdpCoap fields size = refl
 
+-- without CoAP, the packet is the filled-in headers with the payload, and its checksum made anew
+-- where the rule computes it
 pub packet_of-plain : (rule : RuleData) (direction : Direction) (fields : List FieldValue)
     (payload : List ℕ) → IsWithoutCoap (stack_of rule)
     → packet_of rule direction fields payload ≡ checksummed rule direction

@@ -67,6 +67,8 @@ message-right fields headers payload h right =
       | inr long ↦ absurd (omega (arith, long, ltb-false 65535 (8 + n) size.0))
     ]
 
+-- restored fields of an admitted rule, one for each entry, of which no test finds one wrong, make a
+-- packet of its stack with the payload, and with the value that each entry makes
 pub put-packet : (rule : RuleData) (direction : Direction) (fields : List FieldValue)
     (payload : List ℕ) → IsAdmitted rule → AreRestored rule direction fields
     → IsSameSet rule direction fields → AllPairs (λ f g. f.at ≢ g.at) fields

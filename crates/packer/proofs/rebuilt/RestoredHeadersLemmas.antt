@@ -33,6 +33,8 @@ abbrev pub header_values : RuleData → Direction → List FieldValue → ℕ �
 header_values rule direction fields size name =
     value_of (filled_headers rule direction fields size) (at_name name)
 
+-- without CoAP, the filled-in field of an entry has its restored value, or where it is a computed
+-- length the true one
 pub headers-value : (rule : RuleData) (direction : Direction) (fields : List FieldValue) (size : ℕ)
     (e : EntryData) → Covers rule direction → Contains (covered rule direction) e
     → value_of (filled_headers rule direction fields size) (field_of e) ≡ filled_value
@@ -43,6 +45,7 @@ headers-value rule direction fields size e covers among =
     (λ d. filled_value (size_after (stack_of rule) size) d (value_of fields (field_of d))) e
     covers.apart among
 
+-- without CoAP, each field of the rule's stack is found by its name among the filled-in fields
 pub headers-found : (rule : RuleData) (direction : Direction) (fields : List FieldValue) (size : ℕ)
     → Covers rule direction
     → AreFound (stack_of rule) (header_values rule direction fields size)
@@ -86,11 +89,13 @@ filled_wide e size value l =
       | inr f ↦ rw f l
     ]
 
+-- a value that has the width of its field, where that has one, has as many bits
 pub width_known : (o : Option ℕ) (value : List Bool) → is_some o ≡ true
     → IfSome o (λ width. length value ≡ width) → length value ≡ unwrap_or o 0
 width_known None value s h = absurd (false≢true s)
 width_known (Some width) value s h = h
 
+-- each field of a stack without CoAP has a width
 pub names_wide : (of : Stack) (name : FieldName) → IsWithoutCoap of
     → Contains (fields_of_stack of) name → is_some (width_of name) ≡ true
 names_wide stack.Ip name h among = passes_each (λ n. is_some (width_of n)) ip_fields refl name among
@@ -98,6 +103,7 @@ names_wide stack.IpUdp name h among =
     passes_each (λ n. is_some (width_of n)) (ip_fields ++ udp_fields) refl name among
 names_wide stack.IpUdpCoap name h among = absurd h
 
+-- without CoAP, each of the restored fields has its width, with computed lengths filled in
 pub headers-wide : (rule : RuleData) (direction : Direction) (fields : List FieldValue) (size : ℕ)
     → Covers rule direction → AreRestored rule direction fields
     → AreWide (stack_of rule) (header_values rule direction fields size)
@@ -121,6 +127,7 @@ headers-wide rule direction fields size covers restored =
     ∙ filled_wide e.0 (size_after (stack_of rule) size) (value_of fields (field_of e.0)) own
     ∙ ap bits_of name)
 
+-- a stack without CoAP that has the UDP checksum is the one with UDP
 pub udp_stack : (of : Stack) → IsWithoutCoap of → Contains (fields_of_stack of) UdpChecksum
     → of ≡ stack.IpUdp
 udp_stack stack.Ip h among =

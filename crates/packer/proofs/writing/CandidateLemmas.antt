@@ -82,6 +82,8 @@ LeavesNoneOut rules iids direction packet ids =
     → schc_packet_by iids direction packet listed ≡ Some schc_packet
     → Contains ids listed.rule.id
 
+-- the first candidate of RuleIDs that leave out no rule with an SCHC packet is that of the SCHC
+-- packet which comes first under all rules
 pub smallest-shortest : (rules : List Listed) (iids : Iids) (direction : Direction)
     (packet : List ℕ) (ids : List ℕ) → IsAscending rules
     → LeavesNoneOut rules iids direction packet ids
@@ -124,6 +126,7 @@ first_of rules iids direction packet c (Some schc_packet) rising e is =
       is_shortest = e;
     }
 
+-- the candidate of the SCHC packet that comes first has the RuleID of the rule that is chosen
 pub first-schc_packet : (rules : List Listed) (iids : Iids) (direction : Direction)
     (packet : List ℕ) (c : Candidate) → IsAscending rules
     → option_map candidate_of (shortest iids direction packet rules) ≡ Some c

@@ -53,6 +53,7 @@ weaker : (c d : Candidate) → (d.bits < c.bits) ⊎ ((d.bits ≡ c.bits) × (d.
 weaker c d (inl l) = inl l
 weaker c d (inr l) = inr (l.0, omega (arith, l.1))
 
+-- a candidate that is preferred to another comes first of the two
 pub preferred-true : (c d : Candidate) → is_preferred c d ≡ true → ComesFirst c d
 preferred-true c d t =
     elim (cases_lt c.bits d.bits) [
@@ -66,6 +67,7 @@ preferred-true c d t =
         and_parts (c.bits == d.bits) (nat_le c.rule_id d.rule_id) (rw no at t) in
         (eqb-true c.bits d.bits parts.0, leb-true c.rule_id d.rule_id parts.1)
 
+-- where it isn't preferred, the other comes first
 pub preferred-false : (c d : Candidate) → is_preferred c d ≡ false → ComesFirst d c
 preferred-false c d f =
     elim (first-either c d) [
@@ -73,6 +75,7 @@ preferred-false c d f =
       | inr l ↦ weaker c d l
     ]
 
+-- a candidate that comes before one that comes before a third comes before the third
 pub first-trans : (a b c : Candidate) → ComesFirst a b → ComesFirst b c → ComesFirst a c
 first-trans a b c (inl l) (inl k) = inl (omega (arith, l, k))
 first-trans a b c (inl l) (inr k) = inl (omega (arith, l, k.0))
@@ -199,6 +202,8 @@ first_of f id ids (Some a) (Some c) e rest =
           )
     ]
 
+-- the candidate taken of these RuleIDs is one of theirs that comes before the others, or they have
+-- none
 pub smallest-is : (f : ℕ → Option Candidate) (ids : List ℕ) → IsSmallest f ids (smallest_of f ids)
 smallest-is f [] = λ id among. absurd (omega (arith, among.1))
 smallest-is f (id ∷ ids) = first_of f id ids (f id) (smallest_of f ids) refl (smallest-is f ids)

@@ -35,6 +35,8 @@ use Rattle.decompress.proofs.LawLemmas.{all_at}
 abbrev pub slack : ℕ → ℕ
 slack size = if nat_lt size 15 then 8 else (if nat_lt size 255 then 12 else 28)
 
+-- the bits of a field's value, and of an option's also those that its size or the index of its
+-- target takes at most
 abbrev pub room : FieldName → List Bool → ℕ
 room (CoapOption number) value = slack (length value / 8) + length value
 room _ value = length value
@@ -43,12 +45,15 @@ pub room-value : (name : FieldName) (value : List Bool) → length value ≤ roo
 room-value (CoapOption number) value = omega arith
 room-value _ value = omega arith
 
+-- the slack of an option of fewer than 15 bytes is 8 bits
 pub slack-small : (size : ℕ) → size < 15 → slack size ≡ 8
 slack-small size l = rw (lt-ltb size 15 l) refl
 
+-- that of one of 15 to 254 bytes is 12 bits
 pub slack-middle : (size : ℕ) → 15 ≤ size → size < 255 → slack size ≡ 12
 slack-middle size h l = rw (le-ltb size 15 h, lt-ltb size 255 l) refl
 
+-- that of one of 255 bytes or more is 28 bits
 pub slack-large : (size : ℕ) → 255 ≤ size → slack size ≡ 28
 slack-large size h = rw (le-ltb size 15 (omega (arith, h)), le-ltb size 255 h) refl
 

@@ -20,6 +20,7 @@ in_range rule admitted =
       | inr f ↦ f
     ]
 
+-- the RuleID of an admitted rule fits 8 bits
 pub id-small : (rule : RuleData) → IsAdmitted rule → rule.id < 256
 id-small rule admitted =
     omega (
@@ -39,6 +40,7 @@ with_id front id bits e =
       length-number_bits 8 id,
     )
 
+-- 8 bits or more are as many still with others behind them
 pub with_more : (bits more longer : List Bool) → longer ≡ bits ++ more → 8 ≤ length bits
     → 8 ≤ length longer
 with_more bits more longer e h =

@@ -10,6 +10,7 @@ pub shorter-first : (f g : SchcPacketData) → is_preferred (candidate_of f) (ca
     → shorter (Some f) (Some g) ≡ Some f
 shorter-first f g h = rw h refl
 
+-- where the first SCHC packet isn't preferred, the later one is chosen
 pub shorter-later : (f g : SchcPacketData) → is_preferred (candidate_of f) (candidate_of g) ≡ false
     → shorter (Some f) (Some g) ≡ Some g
 shorter-later f g h = rw h refl

@@ -46,6 +46,7 @@ fields-split of direction packet s h p =
     packet-split_of of direction packet s.fields s.payload_from
     (fields-packet of direction packet s.fields s.payload_from h p)
 
+-- a packet that is split as one of a stack without CoAP is one, with these fields and this payload
 pub split-fields : (of : Stack) (direction : Direction) (packet : List ℕ) (s : SplitData)
     → IsWithoutCoap of → split_of of direction packet ≡ Some s
     → FieldsOf of direction packet s.fields s.payload_from
@@ -106,6 +107,7 @@ ip-all : (direction : Direction) (packet : List ℕ)
 unfolding fields_in
 ip-all direction packet = refl
 
+-- a packet's split as one of IPv6, cut to IPv6, stays what it was
 pub ip-cut : (direction : Direction) (packet : List ℕ) (s own : SplitData)
     → split_of stack.Ip direction packet ≡ Some s → split_of stack.Ip direction packet ≡ Some own
     → cut_to stack.Ip s ≡ own
@@ -116,6 +118,7 @@ ip-cut direction packet s own e f =
     (ap (λ (fs : List FieldValue). take 10 fs) p.its_fields ∙ ip-all direction packet
     ∙ sym q.its_fields) (sym q.its_payload)
 
+-- a packet's split as one of UDP, cut to a stack without CoAP, is its split as one of that stack
 pub udp-cut : (of : Stack) (direction : Direction) (packet : List ℕ) (s own : SplitData)
     → IsWithoutCoap of → split_of stack.IpUdp direction packet ≡ Some s
     → split_of of direction packet ≡ Some own → cut_to of s ≡ own
@@ -143,6 +146,7 @@ coap-parts headers split (Ok message) e =
     (headers.payload_from + message.payload_from) ≡ split = cc in
     (message, ap (λ (s : SplitData). s.fields) (sym same))
 
+-- a packet's split with the CoAP message, cut to any stack, is its split as one of that stack
 pub coap-cut : (of : Stack) (direction : Direction) (packet : List ℕ) (headers s own : SplitData)
     → split_of stack.IpUdp direction packet ≡ Some headers
     → with_message headers (message_in (drop 48 packet)) ≡ Some s
@@ -228,6 +232,7 @@ next-header-width direction packet s e =
     (split-fields stack.Ip direction packet s tt e) (4, omega arith, refl) in
     omega (arith, w)
 
+-- the application's port of a packet with UDP has at most 16 bits
 pub port-width : (direction : Direction) (packet : List ℕ) (s : SplitData)
     → split_of stack.IpUdp direction packet ≡ Some s
     → length (value_of s.fields (at_name UdpAppPort)) ≤ 16
@@ -243,6 +248,7 @@ pub where-none : (is : Bool) (s : SplitData) (o : Option SplitData) → is ≡ f
 where-none true s o e w = absurd (cc)
 where-none false s o e w = sym w
 
+-- where the fields were added, what they were added to is the packet's split
 pub where-some : (is : Bool) (s : SplitData) (o : Option SplitData) → is ≡ true
     → where_split is s ≡ o → o ≡ Some s
 where-some true s o e w = sym w
@@ -254,6 +260,7 @@ some_fault : {X : Type 0} (o : Option SplitFault) (x : X)
 some_fault None x e = absurd (cc)
 some_fault (Some fault) x e = (fault, refl)
 
+-- a packet that isn't split as one of IPv6 isn't split as one of UDP
 pub no-udp : (direction : Direction) (packet : List ℕ) → split_of stack.Ip direction packet ≡ None
     → split_of stack.IpUdp direction packet ≡ None
 unfolding split_of refusal

@@ -255,10 +255,12 @@ coap-suspects rules direction packet headers split e w c =
     ∙ ap (suspects rules direction stack.IpUdpCoap)
     (coap_key direction packet headers split e w)
 
+-- a packet that isn't split as one of the stack may match none of the stack's rules
 pub no-suspects : (rules : List Listed) (direction : Direction) (packet : List ℕ) (of : Stack)
     → split_of of direction packet ≡ None → suspects_of rules direction packet of ≡ []
 no-suspects rules direction packet of e = ap (suspects_in rules direction of) e
 
+-- the rules of a stack that a packet may match are those found by the number in its key field
 pub some-suspects : (rules : List Listed) (direction : Direction) (packet : List ℕ) (of : Stack)
     (split : SplitData) → split_of of direction packet ≡ Some split
     → suspects_of rules direction packet of ≡ suspects rules direction of
@@ -275,6 +277,7 @@ far-ip rules direction packet s e n stack.IpUdp id own among f = let both : None
 far-ip rules direction packet s e n stack.IpUdpCoap id own among f = let both : None ≡ Some own =
     sym (no-coap direction packet n) ∙ f in absurd (cc)
 
+-- a split as one of UDP goes far enough where the packet may match no rule with CoAP
 pub far-udp : (rules : List Listed) (direction : Direction) (packet : List ℕ) (s : SplitData)
     → split_of stack.IpUdp direction packet ≡ Some s
     → suspects_of rules direction packet stack.IpUdpCoap ≡ []
@@ -287,6 +290,7 @@ far-udp rules direction packet s e n stack.IpUdpCoap id own among f =
     let none : Contains [] id = subst (λ (xs : List ℕ). Contains xs id) n among in
     absurd (omega (arith, none.1))
 
+-- a split with the CoAP message goes far enough for every rule
 pub far-coap : (rules : List Listed) (direction : Direction) (packet : List ℕ)
     (headers s : SplitData) → split_of stack.IpUdp direction packet ≡ Some headers
     → with_message headers (message_in (drop 48 packet)) ≡ Some s
@@ -315,6 +319,7 @@ tried-shortest edition iids direction packet a b sound bytes e f =
     ∙ smallest-shortest rules iids direction packet (all_suspects rules direction packet)
     sound.ascending (none-left_out edition iids direction packet sound bytes)
 
+-- a packet that isn't split as one of UDP may match no rule with UDP, and none with CoAP
 pub no-udp-suspects : (rules : List Listed) (direction : Direction) (packet : List ℕ)
     → split_of stack.IpUdp direction packet ≡ None
     → (suspects_of rules direction packet stack.IpUdp ++ suspects_of rules direction packet
@@ -374,6 +379,8 @@ pub record IsOwnSchcPacket (iids : Iids) (direction : Direction) (packet : List 
       (computed_over (stack_of listed.rule) packet) ≡ true
   pub is : schc_packet ≡ schc_packet_under listed.rule direction packet split
 
+-- of a packet split far enough, the rule that is chosen matches the split cut to its stack, and
+-- makes of it the SCHC packet that comes first
 pub own-schc_packet : (edition : EditionData) (iids : Iids) (direction : Direction)
     (packet : List ℕ) (id : ℕ) (split : SplitData) (listed : Listed) → IsSound edition
     → AreBytes packet → IsSplitFarEnough edition.rules direction packet split

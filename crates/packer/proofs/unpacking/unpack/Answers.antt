@@ -7,6 +7,7 @@ returns-clause-says c =
     says-result c.args.edition.now c.args.iids c.args.direction c.args.bits.now c.read.result
     c.read.ensures.sound c.read.ensures.options c.read.ensures.ok
 
+-- where no packet is given, memory is wanting, or the bits aren't read as any packet
 pub returns-clause-none : goal.returns-clause-none
 returns-clause-none c =
     IfErr-weaker c.read.result _ _

@@ -2,6 +2,7 @@ use Rattle.std.proofs.Common.{sym}
 use Rattle.script_lang.proofs.RangesLemmas.{declared_one, numbers_one}
 use Rattle.script_lang.proofs.scripts.Script.declare.Goals as goal
 
+-- with one more device the script is in its ranges, and the set has the numbers of its devices
 pub invariant_of-self-2 : goal.invariant_of-self-2
 invariant_of-self-2 c =
     let new = rw (sym c.self.view_is) at c.requires.own_number in

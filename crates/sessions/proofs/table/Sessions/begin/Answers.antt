@@ -41,6 +41,7 @@ returns-in_default-clause-unchanged c =
     absurd (has_message s.role s.params c.sending-port.result c.args.bits c.in_ok-sender.sender _
     c.in-Ok.given begun c.in-Ok.ensures.given c.in_default.is)
 
+-- a session that has begun is one of this end, and each timer of the end runs where it should
 pub invariant_of-self-2 : goal.invariant_of-self-2
 invariant_of-self-2 c =
     let s = c.self.inside in

@@ -4,6 +4,7 @@ use Rattle.sessions.specs.Steps.{next_from, message_choice}
 use Rattle.sessions.proofs.NextLemmas.{some_of, none_of, next_answer, next_message}
 use Rattle.sessions.proofs.table.Sessions.next.Goals as goal
 
+-- where an answer is given, it is what comes next, and the end is as it is after giving it
 pub returns-in-Some-clause-step : goal.returns-in-Some-clause-step
 returns-in-Some-clause-step c =
     next_answer c.args.self.now c.answer.new.self c.in-Some.out

@@ -4,6 +4,8 @@ use Rattle.sessions.proofs.ReadingLemmas.{read_is}
 use Rattle.sessions.proofs.CallLemmas.{fragment_ok, fragment_err}
 use Rattle.sessions.proofs.table.Sessions.take_fragment.Goals as goal
 
+-- bytes that are read as a message do what it does to the receiver of the port, and the role and
+-- the parameters of the end stay
 pub returns-in-Ok : goal.returns-in-Ok
 returns-in-Ok c =
     let params = c.args.params.now in
@@ -20,6 +22,7 @@ returns-in-Ok c =
       params = c.receive.ensures.params;
     }
 
+-- bytes that are no fragment are refused with the fault of reading them, and nothing changes
 pub returns-in-Err : goal.returns-in-Err
 returns-in-Err c =
     let params = c.args.params.now in
