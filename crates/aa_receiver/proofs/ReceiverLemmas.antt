@@ -31,15 +31,15 @@ is_receiver bits (state.Gathering count answer) stands = stands
 is_receiver bits (state.Finished last answer) stands = stands
 
 -- where no answer is due, giving none changes nothing
-pub none_answered : (receiver : AaReceiverData) → due_answer receiver ≡ None
+pub none-answered : (receiver : AaReceiverData) → due_answer receiver ≡ None
     → answered receiver ≡ receiver
 unfolding due_answer answered
-none_answered (Empty true) e = absurd (cc)
-none_answered (Empty false) e = refl
-none_answered (Gathering bits count None) e = refl
-none_answered (Gathering bits count (Some answer)) e = absurd (cc)
-none_answered (Finished last true) e = absurd (cc)
-none_answered (Finished last false) e = refl
+none-answered (Empty true) e = absurd (cc)
+none-answered (Empty false) e = refl
+none-answered (Gathering bits count None) e = refl
+none-answered (Gathering bits count (Some answer)) e = absurd (cc)
+none-answered (Finished last true) e = absurd (cc)
+none-answered (Finished last false) e = refl
 
 some-same : (first second : Message) → Some first ≡ Some second → first ≡ second
 some-same first second e = cc
@@ -70,10 +70,10 @@ can-answer bits (state.Finished last true) message stands e =
 can-answer bits (state.Finished last false) message stands e = absurd (cc)
 
 -- what is due can be written
-pub answer_spelt : (params : FragParams) (bits : List Bool) (at : State) (message : Message)
+pub answer-spelt : (params : FragParams) (bits : List Bool) (at : State) (message : Message)
     → params ≡ params_of mode.AckAlways → StandsIn bits at
     → due_answer (received bits at) ≡ Some message → CanSpell params side.Answers message []
-answer_spelt params bits at message row stands e =
+answer-spelt params bits at message row stands e =
     subst (λ (p : FragParams). CanSpell p side.Answers message []) (sym row)
     (can-answer bits at message stands e)
 
@@ -131,9 +131,9 @@ has-room (Finished last true) message e =
 has-room (Finished last false) message e = absurd (cc)
 
 -- an answer has at most two bytes
-pub answer_room : (params : FragParams) (bits : List Bool) (at : State) (message : Message)
+pub answer-room : (params : FragParams) (bits : List Bool) (at : State) (message : Message)
     → params ≡ params_of mode.AckAlways → due_answer (received bits at) ≡ Some message
     → length (written params message []) ≤ 2
-answer_room params bits at message row e =
+answer-room params bits at message row e =
     subst (λ (p : FragParams). length (written p message []) ≤ 2) (sym row)
     (has-room (received bits at) message e)

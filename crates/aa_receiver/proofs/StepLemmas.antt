@@ -8,15 +8,15 @@ use Rattle.reassembly.specs.Joining.{reassembly_bits, has_room}
 use Rattle.schc_bits.proofs.Octets.{length-octets}
 
 -- a part that begins before the end of the bytes has bits
-pub part_some : (bytes : List ℕ) (from : ℕ) → from < 8 * length bytes
+pub part-some : (bytes : List ℕ) (from : ℕ) → from < 8 * length bytes
     → 1 ≤ length (drop from (octets bytes))
-part_some bytes from h = omega (arith, length-drop from (octets bytes), length-octets bytes, h)
+part-some bytes from h = omega (arith, length-drop from (octets bytes), length-octets bytes, h)
 
 -- one tile more, and its bits
 pub count_more : (kept : List Bool) (bytes : List ℕ) (count from : ℕ) → count ≤ length kept
     → from < 8 * length bytes → count + 1 ≤ length (kept ++ drop from (octets bytes))
 count_more kept bytes count from h k =
-    let some = part_some bytes from k in
+    let some = part-some bytes from k in
     omega (arith, length-append kept (drop from (octets bytes)), some, h)
 
 -- there was room for it

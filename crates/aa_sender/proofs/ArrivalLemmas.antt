@@ -28,7 +28,7 @@ use Rattle.aa_sender.specs.declared.states.AaSenderState.{AaSenderState}
 use Rattle.aa_sender.specs.declared.states.AaSenderState.TheVariants.{Sending, Waiting, Closing}
 use Rattle.aa_sender.specs.declared.states.AaSenderState.TheVariants.{Quiet}
 use Rattle.tiles_bitmap.proofs.PieceLemmas.{length-tiles, some-tile}
-use Rattle.aa_sender.proofs.SenderLemmas.{window_of_below, regular_is, last_is, row-bits}
+use Rattle.aa_sender.proofs.SenderLemmas.{window_of_below, regular-is, last_is, row-bits}
 use Rattle.aa_sender.proofs.SenderLemmas.{can_regular, can_all1, can_request, can_abort}
 use Rattle.aa_sender.proofs.SenderLemmas.{room_regular, room_all1, room_request, room_abort}
 
@@ -58,7 +58,7 @@ fragment-fits sender i true e is h =
     )
 fragment-fits sender i false e is h =
     let other = eqb-false i (last_index sender) e in
-    let tile = regular_is sender i is (omega (arith, h, other)) in (
+    let tile = regular-is sender i is (omega (arith, h, other)) in (
       can_regular sender.params (window_of i) 2 (tile_at sender i) is.row (window_of_below i)
           tile.least,
       room_regular sender.params (window_of i) 2 sender.mtu (tile_at sender i) is.row tile.fits,
@@ -88,7 +88,7 @@ due_fits sender is = due_in-fits sender sender.state is is.stands
 pub tile_arrives : TileArrives
 unfolding fragment_of
 tile_arrives sender i is h =
-    let tile = regular_is sender i is h in
+    let tile = regular-is sender i is h in
     let bits = row-bits sender.params is.row in
     let front = fragment_head sender.params.w_bits sender.params.fcn_bits (window_of i) 0 in
     let head : length front ≡ 2 =

@@ -15,7 +15,7 @@ use Rattle.aa_sender.specs.Steps.{retried, aborted_in, aborted}
 use Rattle.aa_sender.specs.declared.states.AaSenderState.{AaSenderState}
 use Rattle.aa_sender.specs.declared.states.AaSenderState.TheVariants.{Sending, Waiting, Closing}
 use Rattle.aa_sender.specs.declared.states.AaSenderState.TheVariants.{Quiet}
-use Rattle.aa_sender.proofs.SenderLemmas.{stands_there}
+use Rattle.aa_sender.proofs.SenderLemmas.{stands-there}
 
 -- a session that begins with ACK-Always parameters, and an MTU and bits in range, has a sender
 pub begins_one : BeginsOne
@@ -122,14 +122,14 @@ pub stays_one : StaysOne
 unfolding sent heard retried aborted
 stays_one sender is =
     record {
-      sends = stands_there sender (sent_in sender.state) is
+      sends = stands-there sender (sent_in sender.state) is
           (sent-stands (last_index sender) sender.state is.stands);
-      hears = λ message. stands_there sender (heard_in (last_index sender) message sender.state).0
+      hears = λ message. stands-there sender (heard_in (last_index sender) message sender.state).0
           is (heard-stands (last_index sender) message sender.state is.stands);
       retries =
-          stands_there sender (retried_in (last_index sender) sender.state).0 is
+          stands-there sender (retried_in (last_index sender) sender.state).0 is
           (retried-stands (last_index sender) sender.state is.stands);
       aborts =
-          stands_there sender (aborted_in sender.state).0 is
+          stands-there sender (aborted_in sender.state).0 is
           (aborted-stands (last_index sender) sender.state);
     }

@@ -91,10 +91,10 @@ is_tile sender ends i is e h =
     }
 
 -- how long tiles are
-pub regular_is : (sender : AaSenderData) (i : ℕ) → IsAaSender sender → i < last_index sender
+pub regular-is : (sender : AaSenderData) (i : ℕ) → IsAaSender sender → i < last_index sender
     → FillsFrame sender.mtu (tile_at sender i)
 unfolding last_index
-regular_is sender i is h =
+regular-is sender i is h =
     let all : length (packet_tiles sender) ≡ length
     (tile_sizes sender.params sender.mtu (length sender.bits)) =
     length-tiles sender.params sender.mtu sender.bits
@@ -249,10 +249,10 @@ padded_packet_is sender size is e =
     (last_of (packet_tiles sender))) % 8) % 8))
 
 -- The sender stands at another place.
-pub stands_there : (sender : AaSenderData) (state : AaSenderState) → IsAaSender sender
+pub stands-there : (sender : AaSenderData) (state : AaSenderState) → IsAaSender sender
     → StandsIn (last_index sender) state → IsAaSender (record sender { state = state })
 unfolding last_index
-stands_there sender state is stands =
+stands-there sender state is stands =
     record {
       row = is.row;
       in_range = is.in_range;
@@ -263,9 +263,9 @@ stands_there sender state is stands =
     }
 
 -- what is checked is short
-pub check_short : (sender : AaSenderData) (size : ℕ) → IsAaSender sender
+pub check-short : (sender : AaSenderData) (size : ℕ) → IsAaSender sender
     → size ≡ length (tile_at sender (last_index sender)) → 34 + size ≤ 1936
-check_short sender size is e =
+check-short sender size is e =
     let fits = last_is sender is in
     let most = is.in_range.1 in
     omega (arith, fits, most, e)

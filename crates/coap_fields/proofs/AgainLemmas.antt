@@ -20,7 +20,7 @@ use Rattle.coap_fields.specs.Join.{value_in, value_of, presence, stands_after, c
 use Rattle.coap_fields.specs.Join.{value_refusals, gaps, join_refusal, options_from, message_of}
 use Rattle.coap_fields.specs.Join.{message_from}
 use Rattle.coap_fields.proofs.RankLemmas.{after-at_least, order-first, order-moved, stands-above}
-use Rattle.coap_fields.proofs.JoinLemmas.{no_options}
+use Rattle.coap_fields.proofs.JoinLemmas.{no-options}
 use Rattle.coap_fields.proofs.BytesLemmas.{spelled-payload}
 
 not_same : (a b : ℕ) → a ≡ b → not (a == b) ≡ false
@@ -63,7 +63,7 @@ message-again m h =
       bits_value-number_bits 8 m.code h.code,
       bits_value-number_bits 16 m.id h.id,
       token-found m.token m.options h.token_bytes,
-      no_options
+      no-options
           m.token (option_fields 0 0 m.options),
       options-found 0 0 m.options h.options,
     )
@@ -248,9 +248,9 @@ message-joins m h =
     (rest-gapless m.token m.options)
 
 -- what a message was split into isn't refused
-pub joins_again : (bytes : List ℕ) (fields : List FieldValue) (from : ℕ)
+pub joins-again : (bytes : List ℕ) (fields : List FieldValue) (from : ℕ)
     → MessageOf bytes fields from → join_refusal fields ≡ None
-joins_again bytes fields from h = ap join_refusal h.its_fields
+joins-again bytes fields from h = ap join_refusal h.its_fields
     ∙ message-joins h.message h.is_message
 
 its_payload_is : (bytes : List ℕ) (fields : List FieldValue) (from : ℕ)
@@ -261,10 +261,10 @@ its_payload_is bytes fields from h =
     ∙ spelled-payload h.message
 
 -- and makes the same bytes
-pub makes_again : (bytes : List ℕ) (fields : List FieldValue) (from : ℕ)
+pub makes-again : (bytes : List ℕ) (fields : List FieldValue) (from : ℕ)
     → MessageOf bytes fields from → message_from fields (drop from bytes) ≡ bytes
 unfolding message_from
-makes_again bytes fields from h =
+makes-again bytes fields from h =
     ap (λ (payload : List ℕ). spelled (message_of fields payload))
     (its_payload_is bytes fields from h)
     ∙ ap (λ (fs : List FieldValue). spelled (message_of fs h.message.payload)) h.its_fields
@@ -276,5 +276,5 @@ pub one_packet : (this that : List ℕ) (fields : List FieldValue) (here there :
     → MessageOf this fields here → MessageOf that fields there → drop here this ≡ drop there that
     → this ≡ that
 one_packet this that fields here there h k e =
-    sym (makes_again this fields here h) ∙ ap (λ (payload : List ℕ). message_from fields payload) e
-    ∙ makes_again that fields there k
+    sym (makes-again this fields here h) ∙ ap (λ (payload : List ℕ). message_from fields payload) e
+    ∙ makes-again that fields there k

@@ -9,9 +9,9 @@ use Rattle.coap_fields.specs.Message.{IsMessage, nibble, extension, option_spell
 use Rattle.coap_fields.specs.Message.{payload_spelled, header_spelled, spelled}
 use Rattle.coap_fields.proofs.NumberLemmas.{nibble-low, nibble-middle, nibble-high, nibble-small}
 
-pub bytes_append : (front back : List ℕ) → AreBytes front → AreBytes back → AreBytes (front ++ back)
-bytes_append [] back a b = b
-bytes_append (byte ∷ front) back a b = (a.0, bytes_append front back a.1 b)
+pub bytes-append : (front back : List ℕ) → AreBytes front → AreBytes back → AreBytes (front ++ back)
+bytes-append [] back a b = b
+bytes-append (byte ∷ front) back a b = (a.0, bytes-append front back a.1 b)
 
 extension_bytes : (n : ℕ) → n ≤ 65804 → AreBytes (extension n)
 extension_bytes n m =
@@ -33,9 +33,9 @@ option_bytes before place o h =
     let small : delta ≤ 65804 = omega (arith, h.number) in (
       first_byte (nibble delta) (nibble (length o.value)) (nibble-small delta)
           (nibble-small (length o.value)),
-      bytes_append (extension delta) (extension (length o.value) ++ o.value)
+      bytes-append (extension delta) (extension (length o.value) ++ o.value)
           (extension_bytes delta small)
-          (bytes_append (extension (length o.value)) o.value
+          (bytes-append (extension (length o.value)) o.value
           (extension_bytes (length o.value) h.size) h.bytes),
     )
 
@@ -44,7 +44,7 @@ options_bytes : (before place : ℕ) (options : List OptionData) → AreOptions 
 unfolding options_spelled
 options_bytes before place [] h = tt
 options_bytes before place (o ∷ options) h =
-    bytes_append (option_spelled before o) (options_spelled o.number options)
+    bytes-append (option_spelled before o) (options_spelled o.number options)
     (option_bytes before place o h.0)
     (options_bytes o.number (next_place before place o.number) options h.1)
 
@@ -53,9 +53,9 @@ payload_bytes [] a = tt
 payload_bytes (byte ∷ payload) a = (omega arith, a)
 
 -- each number that is spelled is a byte
-pub spelled_bytes : (m : Message) → IsMessage m → AreBytes (spelled m)
+pub spelled-bytes : (m : Message) → IsMessage m → AreBytes (spelled m)
 unfolding spelled
-spelled_bytes m h = (
+spelled-bytes m h = (
   omega (arith, h.kind, h.token),
   (
     h.code,
@@ -63,9 +63,9 @@ spelled_bytes m h = (
       omega (arith, h.id),
       (
         omega arith,
-        bytes_append m.token (options_spelled 0 m.options ++ payload_spelled m.payload)
+        bytes-append m.token (options_spelled 0 m.options ++ payload_spelled m.payload)
             h.token_bytes
-            (bytes_append (options_spelled 0 m.options) (payload_spelled m.payload)
+            (bytes-append (options_spelled 0 m.options) (payload_spelled m.payload)
             (options_bytes 0 0 m.options h.options) (payload_bytes m.payload h.payload_bytes)),
       ),
     ),

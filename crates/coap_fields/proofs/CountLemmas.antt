@@ -71,9 +71,9 @@ counted earlier (o ∷ options) before place c h =
     next
 
 -- positions count the options of one number from 1
-pub counts_positions : (options : List OptionData) → AreOptions 0 0 options
+pub counts-positions : (options : List OptionData) → AreOptions 0 0 options
     → option_fields 0 0 options ≡ counted_fields [] options
-counts_positions options h = counted [] options 0 0 nothing_counts h
+counts-positions options h = counted [] options 0 0 nothing_counts h
 
 ascending : (options : List OptionData) (before place : ℕ) → AreOptions before place options
     → Ascend before options × AllByRecursion IsSpellable options
@@ -143,9 +143,9 @@ spellable-from earlier (o ∷ options) before place c a s few =
     )
 
 -- options can stand in a message exactly where they are spellable
-pub are_spellable_exactly : (options : List OptionData)
+pub are-spellable-exactly : (options : List OptionData)
     → AreOptions 0 0 options ↔ AreSpellable options
-are_spellable_exactly options = (
+are-spellable-exactly options = (
   λ h. let p = ascending options 0 0 h in
       record {
         ascend = p.0;

@@ -24,8 +24,8 @@ use Rattle.coap_fields.specs.Fields.{option_fields, header_fields, fields_of_mes
 use Rattle.coap_fields.specs.Join.{is_possible, is_size_right, order}
 use Rattle.coap_fields.specs.Facts.{StandsBefore, AreCoapFields}
 use Rattle.coap_fields.proofs.RankLemmas.{after, order-first}
-use Rattle.coap_fields.proofs.JoinLemmas.{NoneHeld, none_held}
-use Rattle.coap_fields.proofs.AgainLemmas.{rest_of, joins_again}
+use Rattle.coap_fields.proofs.JoinLemmas.{NoneHeld, none-held}
+use Rattle.coap_fields.proofs.AgainLemmas.{rest_of, joins-again}
 
 -- what holds of each element
 all_place : {X : Type 0} → (P : X → Type 0) (xs : List X) → AllByRecursion P xs → (x : X) (k : ℕ)
@@ -34,16 +34,16 @@ all_place P [] h x k l e = absurd (omega arith)
 all_place P (y ∷ xs) h x zero l e = subst P e h.0
 all_place P (y ∷ xs) h x (suc k) l e = all_place P xs h.1 x k (omega arith) e
 
-pub all_at : {X : Type 0} → (P : X → Type 0) (xs : List X) → AllByRecursion P xs → (x : X)
+pub all-at : {X : Type 0} → (P : X → Type 0) (xs : List X) → AllByRecursion P xs → (x : X)
     → Contains xs x → P x
-all_at P xs h x among = all_place P xs h x among.0 among.1 among.2
+all-at P xs h x among = all_place P xs h x among.0 among.1 among.2
 
 pairs_at : {X : Type 0} → (R : X → X → Type 0) (x : X) (xs : List X) → AllByRecursion (R x) xs
     → AllPairs R xs → (i j : ℕ) (d : X) → i < j → j < length (x ∷ xs)
     → R (get_or (x ∷ xs) i d) (get_or (x ∷ xs) j d)
 pairs_at R x xs h k i zero d l m = absurd (omega arith)
 pairs_at R x xs h k zero (suc j) d l m =
-    all_at (R x) xs h (get_or xs j d) (Contains-get_or xs j d (omega arith))
+    all-at (R x) xs h (get_or xs j d) (Contains-get_or xs j d (omega arith))
 pairs_at R x xs h k (suc i) (suc j) d l m = k i j d (omega arith) (omega arith)
 
 -- after a rank and position
@@ -193,10 +193,10 @@ message_fits m h =
     (rest_of m.token m.options) (rest_fits m.token m.options))
 
 -- the fields of a message are as they have to be
-pub are_coap_fields : (bytes : List ℕ) (fields : List FieldValue) (from : ℕ)
+pub are-coap_fields : (bytes : List ℕ) (fields : List FieldValue) (from : ℕ)
     → MessageOf bytes fields from → AreCoapFields fields
-are_coap_fields bytes fields from h =
-    let none : NoneHeld fields = none_held fields (joins_again bytes fields from h) in
+are-coap_fields bytes fields from h =
+    let none : NoneHeld fields = none-held fields (joins-again bytes fields from h) in
     let ordered : AllPairs (λ (f : FieldValue) (g : FieldValue). StandsBefore f.at g.at) fields =
     in_order 0 0 fields none.ordered in
     let follow = each_follows 0 0 fields none.ordered in
@@ -205,12 +205,12 @@ are_coap_fields bytes fields from h =
     (sym h.its_fields) (message_fits h.message h.is_message)
     in
     record {
-      of_coap = all_at (λ (f : FieldValue). layer_of f.at.name ≡ layer.Coap) fields follow.0;
+      of_coap = all-at (λ (f : FieldValue). layer_of f.at.name ≡ layer.Coap) fields follow.0;
       in_order = ordered;
       each_once =
           λ i j d l m. apart (get_or fields i d).at (get_or fields j d).at (ordered i j d l m);
-      width_holds = λ f among. (all_at (λ g. Fits (token_bits fields) g) fields fits f among).0;
-      token_holds = λ f among. (all_at (λ g. Fits (token_bits fields) g) fields fits f among).1;
-      whole_bytes = λ f among is. (all_at OptionHolds fields follow.1 f among is).0;
-      size_holds = λ f among is. (all_at OptionHolds fields follow.1 f among is).1;
+      width_holds = λ f among. (all-at (λ g. Fits (token_bits fields) g) fields fits f among).0;
+      token_holds = λ f among. (all-at (λ g. Fits (token_bits fields) g) fields fits f among).1;
+      whole_bytes = λ f among is. (all-at OptionHolds fields follow.1 f among is).0;
+      size_holds = λ f among is. (all-at OptionHolds fields follow.1 f among is).1;
     }

@@ -15,7 +15,7 @@ use Rattle.coap_fields.specs.Message.{next_place, AreOptions}
 use Rattle.coap_fields.specs.Fields.{option_fields}
 use Rattle.coap_fields.specs.Join.{order, gaps, options_from}
 use Rattle.coap_fields.specs.Placed.{IsWritable}
-use Rattle.coap_fields.proofs.RankLemmas.{is_option_name, after, after-at_least, Follows}
+use Rattle.coap_fields.proofs.RankLemmas.{is_option-name, after, after-at_least, Follows}
 use Rattle.coap_fields.proofs.RankLemmas.{held-first, order-first}
 
 -- the fields of options after one of this number and place
@@ -118,7 +118,7 @@ options-are before place (f ∷ fields) o g =
     let q = order-first (20 + before) place f fields o in
     let least : 20 + before ≤ rank_of f.at.name =
     after-at_least (20 + before) place f.at q.0.stands in
-    let n = is_option_name f.at.name (omega (arith, least)) in
+    let n = is_option-name f.at.name (omega (arith, least)) in
     let is : f ≡ field_with n.0 f.at.position f.value =
     ap (λ name. named_field name f.at.position f.value) n.1 in
     let step =

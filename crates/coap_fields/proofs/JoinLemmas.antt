@@ -35,9 +35,9 @@ pub record NoneHeld (fields : List FieldValue) : Type 0 where
   pub no_gap : first_held (gaps 0 0 fields) ≡ None
 
 -- where joining isn't refused, no condition of presence, order, values or gaps holds
-pub none_held : (fields : List FieldValue) → join_refusal fields ≡ None → NoneHeld fields
+pub none-held : (fields : List FieldValue) → join_refusal fields ≡ None → NoneHeld fields
 unfolding join_refusal
-none_held fields e =
+none-held fields e =
     let p : first_held (presence fields coap_fields) ≡ None =
     first_held-front (presence fields coap_fields)
     (order 0 0 fields ++ (value_refusals fields ++ gaps 0 0 fields)) e in
@@ -239,10 +239,10 @@ token_fields-some [] h = absurd (omega arith)
 token_fields-some (byte ∷ token) h = refl
 
 -- the field of the token is no option: the options are those among the fields behind it
-pub no_options : (token : List ℕ) (options : List FieldValue)
+pub no-options : (token : List ℕ) (options : List FieldValue)
     → options_from (token_fields token ++ options) ≡ options_from options
-no_options [] options = refl
-no_options (byte ∷ token) options = refl
+no-options [] options = refl
+no-options (byte ∷ token) options = refl
 
 ends-none : (tkl : List Bool) (rest : List FieldValue) → value_in rest CoapToken ≡ None
     → length (unwrap_or (value_in rest CoapToken) []) ≡ 8 * bits_value tkl
@@ -327,7 +327,7 @@ made-from version kind tkl code id rest payload wv wk wt wc wi one most e a =
     let fields : List FieldValue = header version kind tkl code id rest in
     let token_is : bytes_of (value_of rest CoapToken) ≡ e.token = e.token_is in
     let options : options_from rest ≡ options_from e.options = ap options_from e.is
-    ∙ no_options e.token e.options in
+    ∙ no-options e.token e.options in
     let bits_v : number_bits 2 1 ≡ version = wide_bits version 2 1 wv one in
     let bits_k : number_bits 2 (bits_value kind) ≡ kind =
     wide_bits kind 2 (bits_value kind) wk refl in
@@ -362,7 +362,7 @@ made-from version kind tkl code id rest payload wv wk wt wc wi one most e a =
 pub made : (fields : List FieldValue) (payload : List ℕ) → join_refusal fields ≡ None
     → IsMade fields payload
 made fields payload e =
-    let n : NoneHeld fields = none_held fields e in
+    let n : NoneHeld fields = none-held fields e in
     let b : Begins fields = begins fields n.present n.ordered in
     let right : IsRight b.version b.tkl (value_in b.rest CoapToken) =
     is_right b.version b.kind b.tkl b.code b.id b.rest
@@ -379,6 +379,6 @@ made fields payload e =
     b.tkl_width b.code_width b.id_width right.version_is right.most ends are)
 
 -- what writing asks for
-pub kind_below : (fields : List FieldValue) → join_refusal fields ≡ None
+pub kind-below : (fields : List FieldValue) → join_refusal fields ≡ None
     → bits_value (value_of fields CoapType) < 4
-kind_below fields e = below (value_of fields CoapType) 2 (made fields [] e).kind_width
+kind-below fields e = below (value_of fields CoapType) 2 (made fields [] e).kind_width

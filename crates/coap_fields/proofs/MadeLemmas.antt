@@ -6,7 +6,7 @@ use Rattle.rule_model.specs.declared.value.FieldValue.{FieldValue}
 use Rattle.coap_fields.specs.Fields.{MessageOf}
 use Rattle.coap_fields.specs.Join.{join_refusal, message_of, message_from}
 use Rattle.coap_fields.proofs.JoinLemmas.{IsMade, made}
-use Rattle.coap_fields.proofs.BytesLemmas.{spelled_bytes, spelled-payload}
+use Rattle.coap_fields.proofs.BytesLemmas.{spelled-bytes, spelled-payload}
 
 -- fields that aren't refused and a payload of bytes make bytes that spell a message: it has these
 -- fields, and its payload is at the end
@@ -37,4 +37,4 @@ pub made-bytes : (fields : List FieldValue) (payload : List ℕ) → AreBytes pa
     → join_refusal fields ≡ None → AreBytes (message_from fields payload)
 unfolding message_from
 made-bytes fields payload a e =
-    spelled_bytes (message_of fields payload) ((made fields payload e).is_message a)
+    spelled-bytes (message_of fields payload) ((made fields payload e).is_message a)

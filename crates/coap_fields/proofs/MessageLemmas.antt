@@ -12,7 +12,7 @@ use Rattle.coap_fields.specs.Message.{payload_spelled, spelled}
 use Rattle.coap_fields.specs.Reading.{options_at, with_header, token_at, is_first_wrong, header_at}
 use Rattle.coap_fields.specs.Reading.{read_message}
 use Rattle.coap_fields.proofs.NumberLemmas.{guard-ok}
-use Rattle.coap_fields.proofs.OptionLemmas.{take_bytes, drop_bytes}
+use Rattle.coap_fields.proofs.OptionLemmas.{take-bytes, drop-bytes}
 use Rattle.coap_fields.proofs.OptionsLemmas.{options_at-again, IsTaken, options_within-takes}
 
 token_at-again : (size kind code id : ℕ) (token rest : List ℕ)
@@ -120,7 +120,7 @@ whole first code high low bytes options payload v t c h l a enough taken =
             code = c;
             id = omega arith;
             token = rw size t;
-            token_bytes = take_bytes (first % 16) bytes a;
+            token_bytes = take-bytes (first % 16) bytes a;
             options = taken.are_options;
             payload_bytes = taken.payload_bytes;
           };
@@ -139,7 +139,7 @@ token_at-takes size first code high low bytes m v t c h l a e =
     let enough : first % 16 ≤ length bytes = ltb-false (length bytes) (first % 16) g.0 in
     let taken : IsTaken 0 0 rest w.0.0 w.0.1 =
     options_within-takes (length rest) size 0 0 rest w.0.0 w.0.1 (omega arith)
-    (drop_bytes (first % 16) bytes a) w.1 in
+    (drop-bytes (first % 16) bytes a) w.1 in
     subst (λ x. IsWhole (first ∷ code ∷ high ∷ low ∷ bytes) x) w.2
     (whole first code high low bytes w.0.0 w.0.1 v t c h l a enough taken)
 

@@ -12,8 +12,8 @@ use Rattle.coap_fields.specs.Reading.{one_more, two_more, extended, then_number}
 abbrev pub some_read : ℕ → List ℕ → Option (ℕ × List ℕ)
 some_read a x = Some (a, x)
 
-pub some_pair : (a b : ℕ) (x y : List ℕ) → some_read a x ≡ some_read b y → (a ≡ b) × (x ≡ y)
-some_pair a b x y e =
+pub some-pair : (a b : ℕ) (x y : List ℕ) → some_read a x ≡ some_read b y → (a ≡ b) × (x ≡ y)
+some-pair a b x y e =
     let parts : ◌≡◌ {A = ℕ × List ℕ} (a, x) (b, y) = cc in
     (ap (λ (p : ℕ × List ℕ). p.0) parts, ap (λ (p : ℕ × List ℕ). p.1) parts)
 
@@ -100,7 +100,7 @@ one-takes : (bytes : List ℕ) (n : ℕ) (rest : List ℕ) → AreBytes bytes
     → one_more bytes ≡ Some (n, rest) → IsNumber 13 bytes n rest
 one-takes [] n rest a e = absurd (cc)
 one-takes (byte ∷ bytes) n rest a e =
-    let parts : (13 + byte ≡ n) × (bytes ≡ rest) = some_pair (13 + byte) n bytes rest e in
+    let parts : (13 + byte ≡ n) × (bytes ≡ rest) = some-pair (13 + byte) n bytes rest e in
     let low : 13 ≤ n = omega (arith, parts.0) in
     let high : n < 269 = omega (arith, parts.0, a.0) in
     let same : n - 13 ≡ byte = omega (arith, parts.0) in
@@ -117,7 +117,7 @@ two-takes [] n rest a e = absurd (cc)
 two-takes (byte ∷ []) n rest a e = absurd (cc)
 two-takes (high ∷ low ∷ bytes) n rest a e =
     let parts : (269 + 256 * high + low ≡ n) × (bytes ≡ rest) =
-    some_pair (269 + 256 * high + low) n bytes rest e in
+    some-pair (269 + 256 * high + low) n bytes rest e in
     let above : 269 ≤ n = omega (arith, parts.0) in
     let first : (n - 269) / 256 ≡ high = omega (arith, parts.0, a.1.0) in
     let second : (n - 269) % 256 ≡ low = omega (arith, parts.0, a.1.0) in
@@ -135,7 +135,7 @@ extended-takes bits bytes n rest h a e =
     elim (cases_lt bits 13) [
       | inl low ↦
           let parts : (bits ≡ n) × (bytes ≡ rest) =
-          some_pair bits n bytes rest (sym (extended-low bits bytes low) ∙ e) in
+          some-pair bits n bytes rest (sym (extended-low bits bytes low) ∙ e) in
           low-takes bits bytes n rest low a parts.0 parts.1
       | inr high ↦ elim (cases_lt bits 14) [
         | inl k ↦
@@ -155,14 +155,14 @@ extended-takes bits bytes n rest h a e =
 one-shorter : (bytes : List ℕ) (n : ℕ) (rest : List ℕ) → one_more bytes ≡ Some (n, rest)
     → length rest ≤ length bytes
 one-shorter [] n rest e = absurd (cc)
-one-shorter (byte ∷ bytes) n rest e = rw (← (some_pair (13 + byte) n bytes rest e).1) (omega arith)
+one-shorter (byte ∷ bytes) n rest e = rw (← (some-pair (13 + byte) n bytes rest e).1) (omega arith)
 
 two-shorter : (bytes : List ℕ) (n : ℕ) (rest : List ℕ) → two_more bytes ≡ Some (n, rest)
     → length rest ≤ length bytes
 two-shorter [] n rest e = absurd (cc)
 two-shorter (byte ∷ []) n rest e = absurd (cc)
 two-shorter (high ∷ low ∷ bytes) n rest e =
-    rw (← (some_pair (269 + 256 * high + low) n bytes rest e).1) (omega arith)
+    rw (← (some-pair (269 + 256 * high + low) n bytes rest e).1) (omega arith)
 
 -- reading a number leaves no more bytes than there were
 pub extended-shorter : (bits : ℕ) (bytes : List ℕ) (n : ℕ) (rest : List ℕ)
@@ -170,7 +170,7 @@ pub extended-shorter : (bits : ℕ) (bytes : List ℕ) (n : ℕ) (rest : List �
 unfolding extended
 extended-shorter bits bytes n rest e =
     elim (cases_lt bits 13) [
-      | inl low ↦ rw (← (some_pair bits n bytes rest (sym (extended-low bits bytes low) ∙ e)).1)
+      | inl low ↦ rw (← (some-pair bits n bytes rest (sym (extended-low bits bytes low) ∙ e)).1)
           (omega arith)
       | inr high ↦ elim (cases_eq bits 13) [
         | inl k ↦ one-shorter bytes n rest (rw (le-ltb bits 13 high, eq-eqb bits 13 k) at e)

@@ -13,24 +13,24 @@ use Rattle.coap_fields.proofs.NumberLemmas.{nibble-small, extended-again, IsNumb
 use Rattle.coap_fields.proofs.NumberLemmas.{extended-shorter, then_number-ok, guard-ok}
 
 -- lists of bytes
-pub take_bytes : (count : ℕ) (bytes : List ℕ) → AreBytes bytes → AreBytes (take count bytes)
-take_bytes zero bytes a = tt
-take_bytes (suc count) [] a = tt
-take_bytes (suc count) (byte ∷ bytes) a = (a.0, take_bytes count bytes a.1)
+pub take-bytes : (count : ℕ) (bytes : List ℕ) → AreBytes bytes → AreBytes (take count bytes)
+take-bytes zero bytes a = tt
+take-bytes (suc count) [] a = tt
+take-bytes (suc count) (byte ∷ bytes) a = (a.0, take-bytes count bytes a.1)
 
 -- what is left of bytes behind the first `count` is bytes
-pub drop_bytes : (count : ℕ) (bytes : List ℕ) → AreBytes bytes → AreBytes (drop count bytes)
-drop_bytes zero bytes a = a
-drop_bytes (suc count) [] a = tt
-drop_bytes (suc count) (byte ∷ bytes) a = drop_bytes count bytes a.1
+pub drop-bytes : (count : ℕ) (bytes : List ℕ) → AreBytes bytes → AreBytes (drop count bytes)
+drop-bytes zero bytes a = a
+drop-bytes (suc count) [] a = tt
+drop-bytes (suc count) (byte ∷ bytes) a = drop-bytes count bytes a.1
 
 -- the parts of equal readings
 abbrev pub is_read : {A B : Type 0} → A → B → Result (A × B) ℕ
 is_read a x = Ok (a, x)
 
 -- where two reads are the same, so are what they read and what they leave
-pub ok_pair : {A B : Type 0} (a b : A) (x y : B) → is_read a x ≡ is_read b y → (a ≡ b) × (x ≡ y)
-ok_pair {A = A} {B = B} a b x y e =
+pub ok-pair : {A B : Type 0} (a b : A) (x y : B) → is_read a x ≡ is_read b y → (a ≡ b) × (x ≡ y)
+ok-pair {A = A} {B = B} a b x y e =
     let parts : ◌≡◌ {A = A × B} (a, x) (b, y) = cc in
     (ap (λ (p : A × B). p.0) parts, ap (λ (p : A × B). p.1) parts)
 
@@ -108,7 +108,7 @@ value_parts : (size number count : ℕ) (bytes : List ℕ) (o : OptionData) (res
     × (record { number = number; value = take count bytes } ≡ o) × (drop count bytes ≡ rest)
 value_parts size number count bytes o rest e =
     let g = guard-ok (nat_lt (length bytes) count) size _ (o, rest) e in
-    let parts = ok_pair _ o (drop count bytes) rest g.1 in
+    let parts = ok-pair _ o (drop count bytes) rest g.1 in
     (ltb-false (length bytes) count g.0, parts.0, parts.1)
 
 number_parts : (before place number : ℕ) → is_number_wrong before place number ≡ false
@@ -148,10 +148,10 @@ from_parts before place first bytes after value_bytes delta count o rest d l eno
             number = rw (← number) small;
             repeats = rw (← number) repeats;
             size = rw size most;
-            bytes = rw (← value) (take_bytes count value_bytes l.rest_bytes);
+            bytes = rw (← value) (take-bytes count value_bytes l.rest_bytes);
           };
       bytes_are = rw (difference, size, ← first_is, ← tail);
-      rest_bytes = rw (← left) (drop_bytes count value_bytes l.rest_bytes);
+      rest_bytes = rw (← left) (drop-bytes count value_bytes l.rest_bytes);
     }
 
 numbered_at-takes : (size here before place first : ℕ) (bytes after : List ℕ) (delta : ℕ)

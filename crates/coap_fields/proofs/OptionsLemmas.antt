@@ -14,7 +14,7 @@ use Rattle.coap_fields.specs.Reading.{option_at, payload_at, with_option, then_o
 use Rattle.coap_fields.specs.Reading.{options_within, options_at}
 use Rattle.coap_fields.specs.Placed.{placed}
 use Rattle.coap_fields.proofs.NumberLemmas.{nibble-small}
-use Rattle.coap_fields.proofs.OptionLemmas.{is_read, ok_pair, option_at-again, IsRead}
+use Rattle.coap_fields.proofs.OptionLemmas.{is_read, ok-pair, option_at-again, IsRead}
 use Rattle.coap_fields.proofs.OptionLemmas.{option_at-takes, option_at-shorter}
 
 then_option-same : (read : Result (OptionData × List ℕ) ℕ)
@@ -103,8 +103,8 @@ placed-next front before place size o (Ok read) =
     (option_fields o.number place_after read.0))
 
 -- a byte of two halves below 15 isn't the marker, 255
-pub not_marker : (a b : ℕ) → a < 15 → b < 15 → ((16 * a + b) == 255) ≡ false
-not_marker a b h k = ne_eqb (16 * a + b) 255 (λ e. absurd (omega (arith, e)))
+pub not-marker : (a b : ℕ) → a < 15 → b < 15 → ((16 * a + b) == 255) ≡ false
+not-marker a b h k = ne_eqb (16 * a + b) 255 (λ e. absurd (omega (arith, e)))
 
 -- what was spelled is read
 pub options_within-again : (most size before place : ℕ) (options : List OptionData)
@@ -140,7 +140,7 @@ options_within-again (suc most) size before place (o ∷ options) payload h k =
     ∙ option_at-again size here before place o rest h.0
     in
     options_within-next most size before place first tail o rest
-    (not_marker (nibble delta) (nibble count) (nibble-small delta) (nibble-small count)) read
+    (not-marker (nibble delta) (nibble count) (nibble-small delta) (nibble-small count)) read
     ∙ ap (with_option o) (options_within-again most size o.number after options payload h.1 shorter)
 
 -- options that can stand in a message, and a payload, are read from their spelling
@@ -163,7 +163,7 @@ taken-none : (before place : ℕ) (options : List OptionData) (payload : List �
     → is_read [] [] ≡ is_read options payload → IsTaken before place [] options payload
 unfolding options_spelled
 taken-none before place options payload e =
-    let parts = ok_pair {A = List OptionData} {B = List ℕ} [] options [] payload e in
+    let parts = ok-pair {A = List OptionData} {B = List ℕ} [] options [] payload e in
     rw (← parts.0, ← parts.1) (record { bytes_are = refl; are_options = tt; payload_bytes = tt })
 
 taken-payload : (size before place first : ℕ) (bytes : List ℕ) (options : List OptionData)
@@ -173,7 +173,7 @@ taken-payload : (size before place first : ℕ) (bytes : List ℕ) (options : Li
 unfolding options_spelled
 taken-payload size before place first [] options payload m a e = absurd (cc)
 taken-payload size before place first (byte ∷ bytes) options payload m a e =
-    let parts = ok_pair {A = List OptionData} {B = List ℕ} [] options (byte ∷ bytes) payload e in
+    let parts = ok-pair {A = List OptionData} {B = List ℕ} [] options (byte ∷ bytes) payload e in
     rw (m, ← parts.0, ← parts.1) (record { bytes_are = refl; are_options = tt; payload_bytes = a })
 
 with_option-ok : (o : OptionData) (read : Result (List OptionData × List ℕ) ℕ)
@@ -181,7 +181,7 @@ with_option-ok : (o : OptionData) (read : Result (List OptionData × List ℕ) �
     → (more : List OptionData) × (read ≡ Ok (more, payload)) × (o ∷ more ≡ options)
 with_option-ok o (Err stop) options payload e = absurd (cc)
 with_option-ok o (Ok read) options payload e =
-    let parts = ok_pair (o ∷ read.0) options read.1 payload e in
+    let parts = ok-pair (o ∷ read.0) options read.1 payload e in
     (read.0, ap (λ (p : List ℕ). is_read read.0 p) parts.1, parts.0)
 
 then_option-ok : (read : Result (OptionData × List ℕ) ℕ)

@@ -63,10 +63,10 @@ possible_position (CoapOption number) position p h = absurd (omega arith)
 possible_position _ position p h = absurd (false≢true p)
 
 -- names of the options' ranks
-pub is_option_name : (name : FieldName) → 20 ≤ rank_of name → (number : ℕ)
+pub is_option-name : (name : FieldName) → 20 ≤ rank_of name → (number : ℕ)
     × (name ≡ CoapOption number)
-is_option_name (CoapOption number) h = (number, refl)
-is_option_name _ h = absurd (omega (arith, h))
+is_option-name (CoapOption number) h = (number, refl)
+is_option-name _ h = absurd (omega (arith, h))
 
 -- after a rank and position
 pub after : (rank position : ℕ) (at : FieldAt) → stands_after rank position at ≡ true

@@ -22,7 +22,7 @@ use Rattle.coap_fields.specs.Join.{message_from, join_refusal}
 use Rattle.coap_fields.specs.Placed.{field_spelled}
 use Rattle.coap_fields.proofs.RankLemmas.{held-first, order-first}
 use Rattle.coap_fields.proofs.WriteLemmas.{field-next}
-use Rattle.coap_fields.proofs.JoinLemmas.{NoneHeld, none_held}
+use Rattle.coap_fields.proofs.JoinLemmas.{NoneHeld, none-held}
 
 -- where a condition of presence holds, the first one is why the fields make no message, the sizes
 -- of options apart
@@ -200,5 +200,5 @@ order-standing rank position (f ∷ fields) e =
 pub none-wrong : (fields : List FieldValue) → join_refusal fields ≡ None
     → first_held (message_refusals fields) ≡ None
 none-wrong fields e =
-    let n : NoneHeld fields = none_held fields e in
+    let n : NoneHeld fields = none-held fields e in
     wrong-gaps fields n.present (order-standing 0 0 fields n.ordered) n.right ∙ n.no_gap

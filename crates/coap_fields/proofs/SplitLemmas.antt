@@ -60,8 +60,8 @@ header_at-long size first id (code ∷ high ∷ low ∷ bytes) rest h r e =
     let flip : 256 * high + low ≡ id = omega (arith, e) in
     rw (flip, r)
 
-pub long_rest : (bytes : List ℕ) → take (length bytes - 3) (drop 3 bytes) ≡ drop 3 bytes
-long_rest bytes = take_all (length bytes - 3) (drop 3 bytes) (omega (arith, length-drop 3 bytes))
+pub long-rest : (bytes : List ℕ) → take (length bytes - 3) (drop 3 bytes) ≡ drop 3 bytes
+long-rest bytes = take_all (length bytes - 3) (drop 3 bytes) (omega (arith, length-drop 3 bytes))
 
 -- the first byte, and those after it
 pub message_in-none : (message : List ℕ) → length message < 1 → message_in message ≡ Err 0
@@ -112,9 +112,9 @@ message_in-again bytes split h =
     ∙ ap (λ (n : ℕ). split_parts split.fields n) (sym h.its_payload)
 
 -- bytes that spell a message have one list of fields, and one byte at which the payload begins
-pub one_split : (bytes : List ℕ) (these those : List FieldValue) (here there : ℕ)
+pub one-split : (bytes : List ℕ) (these those : List FieldValue) (here there : ℕ)
     → MessageOf bytes these here → MessageOf bytes those there → (these ≡ those) × (here ≡ there)
-one_split bytes these those here there h k =
+one-split bytes these those here there h k =
     let both : split_parts these here ≡ split_parts those there =
     sym (message_in-again bytes (record { fields = these; payload_from = here }) h)
     ∙ message_in-again bytes (record { fields = those; payload_from = there }) k

@@ -15,7 +15,7 @@ use Rattle.coap_fields.specs.Stops.{last_place, HeaderStops, StopsAt}
 use Rattle.coap_fields.proofs.NumberLemmas.{nibble-small}
 use Rattle.coap_fields.proofs.OptionLemmas.{option_at-again}
 use Rattle.coap_fields.proofs.OptionsLemmas.{options_at-next, options_at-marker, options_at-stop}
-use Rattle.coap_fields.proofs.OptionsLemmas.{not_marker}
+use Rattle.coap_fields.proofs.OptionsLemmas.{not-marker}
 use Rattle.coap_fields.proofs.StopLemmas.{extended-lacks, extended-there, message_in-stops}
 
 size-lacks : (size number bits : ℕ) (bytes : List ℕ)
@@ -95,7 +95,7 @@ options-stop (o ∷ options) size before place rest stop a s =
     ∙ option_at-again size here before place o later a.0
     in
     options_at-next size before place first tail o later
-    (not_marker (nibble delta) (nibble count) (nibble-small delta) (nibble-small count)) read
+    (not-marker (nibble delta) (nibble count) (nibble-small delta) (nibble-small count)) read
     ∙ ap (with_option o) (options-stop options size o.number after rest stop a.1 s)
 
 header-stops : (size first : ℕ) (bytes : List ℕ) (stop : ℕ) → HeaderStops size first bytes stop

@@ -20,7 +20,7 @@ use Rattle.coap_fields.specs.Reading.{split_of, message_in, IsRefusal}
 use Rattle.coap_fields.specs.Stops.{bytes_more, number_meant, has_four_ones, OptionStops, RestStops}
 use Rattle.coap_fields.specs.Stops.{OptionsStop, HeaderStops, last_number, last_place, StopsAt}
 use Rattle.coap_fields.specs.Stops.{IsStop}
-use Rattle.coap_fields.proofs.OptionLemmas.{drop_bytes, IsRead, option_at-takes, option_at-shorter}
+use Rattle.coap_fields.proofs.OptionLemmas.{drop-bytes, IsRead, option_at-takes, option_at-shorter}
 
 err-is : {A : Type 0} (a b : ℕ) → ◌≡◌ {A = Result A ℕ} (Err a) (Err b) → b ≡ a
 err-is a b e = cc
@@ -259,7 +259,7 @@ header_at-stops size first (code ∷ high ∷ low ∷ bytes) stop a e =
           inr (
             omega (arith, enough),
             options_within-stops (length rest) size 0 0 rest stop
-                (omega arith) (drop_bytes tkl bytes a.1.1.1) read,
+                (omega arith) (drop-bytes tkl bytes a.1.1.1) read,
           )
     ]
 

@@ -38,8 +38,8 @@ turn-end front before place size [] all h e =
 turn-end front before place size (first ∷ rest) all h e = absurd (omega arith)
 
 -- the bytes after the first
-pub later_are : (rest : List ℕ) → take (length rest - 1) (drop 1 rest) ≡ drop 1 rest
-later_are rest = take_all (length rest - 1) (drop 1 rest) (omega (arith, length-drop 1 rest))
+pub later-are : (rest : List ℕ) → take (length rest - 1) (drop 1 rest) ≡ drop 1 rest
+later-are rest = take_all (length rest - 1) (drop 1 rest) (omega (arith, length-drop 1 rest))
 
 -- the marker, and the payload after it
 pub turn-payload : (front : List FieldValue) (before place size : ℕ) (rest later : List ℕ)

@@ -49,9 +49,9 @@ fits-below value width h =
     omega (arith, bits_value-below value, pow-mono width h)
 
 -- no token is no bytes
-pub no_token : (fields : List FieldValue) → value_in fields CoapToken ≡ None
+pub no-token : (fields : List FieldValue) → value_in fields CoapToken ≡ None
     → bytes_of (value_of fields CoapToken) ≡ []
-no_token fields n = rw n (bytes_of-short [] (omega arith))
+no-token fields n = rw n (bytes_of-short [] (omega arith))
 
 -- one turn of writing
 pub turn : (old now all : List ℕ) (before number i : ℕ) (f : FieldValue) (fields : List FieldValue)

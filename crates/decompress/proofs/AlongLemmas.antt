@@ -25,7 +25,7 @@ use Rattle.rule_model.specs.Findings.{order_wrong}
 use Rattle.rule_model.specs.Residue.{same_field, value_of, entry_residue, token_bits, msb_bits}
 use Rattle.rule_model.specs.Residue.{restored_value, restored_field}
 use Rattle.rule_model.proofs.SizedLemmas.{Contains-first, Contains-rest}
-use Rattle.rule_model.proofs.EntryRowsLemmas.{InOrder, no_later_length}
+use Rattle.rule_model.proofs.EntryRowsLemmas.{InOrder, no-later-length}
 use Rattle.decompress.specs.Reading.{entry_at, with_field, then_entry, restore_from}
 use Rattle.decompress.proofs.EntryLemmas.{FitsKind, SentBy, SentFits, IsRegular, entry_at-again}
 
@@ -66,13 +66,13 @@ pub restore-unused : (iids : Iids) (direction : Direction) (number : ℕ) (befor
 restore-unused iids direction number before e later bits f = rw f
 
 -- what holds of each entry that is used holds of those that are kept
-pub kept_all : (P : EntryData → Type 0) (direction : Direction) (entries : List EntryData)
+pub kept-all : (P : EntryData → Type 0) (direction : Direction) (entries : List EntryData)
     → ((d : EntryData) → Contains entries d → covers d.direction direction ≡ true → P d)
     → AllByRecursion P (kept direction entries)
-kept_all P direction [] h = tt
-kept_all P direction (e ∷ later) h =
+kept-all P direction [] h = tt
+kept-all P direction (e ∷ later) h =
     let rest : AllByRecursion P (kept direction later) =
-    kept_all P direction later (λ d among. h d (Contains-rest e later d among)) in
+    kept-all P direction later (λ d among. h d (Contains-rest e later d among)) in
     elim (cases_Bool (covers e.direction direction)) [
       | inl t ↦ subst (AllByRecursion P) (sym (kept-used direction e later t))
           (h e (Contains-first e later) t, rest)
@@ -125,17 +125,17 @@ abbrev pub token_length : FieldAt
 token_length = record { name = CoapTkl; position = 1 }
 
 -- the token length stands before the token
-pub token_stands : (iids : Iids) (direction : Direction) (fields before whole : List FieldValue)
+pub token-stands : (iids : Iids) (direction : Direction) (fields before whole : List FieldValue)
     (e : EntryData) (later : List EntryData) → order_wrong e (e ∷ later) ≡ false
     → e.name ≡ CoapToken → covers e.direction direction ≡ true
     → whole ≡ before ++ map (restored_field iids fields) (kept direction (e ∷ later))
     → token_bits before ≡ token_bits whole
-token_stands iids direction fields before whole e later order token t w =
+token-stands iids direction fields before whole e later order token t w =
     let none : AllByRecursion (λ d. same_field (field_of d) token_length ≡ false)
     (kept direction (e ∷ later)) =
-    kept_all (λ d. same_field (field_of d) token_length ≡ false) direction (e ∷ later)
+    kept-all (λ d. same_field (field_of d) token_length ≡ false) direction (e ∷ later)
     (λ d among used. and_left (same_name d.name CoapTkl) (d.position == 1)
-    (no_later_length e (e ∷ later) direction order token t d among used))
+    (no-later-length e (e ∷ later) direction order token t d among used))
     in
     let same : value_of (before ++ map (restored_field iids fields) (kept direction (e ∷ later)))
     token_length ≡ value_of before token_length =
@@ -176,7 +176,7 @@ pub record IsSound (e : EntryData) : Type 0 where
   pub token : e.length ≡ TokenLength → e.name ≡ CoapToken
 
 -- what was written is read: the fields as they are restored
-pub again_along : (iids : Iids) (direction : Direction) (fields whole : List FieldValue)
+pub again-along : (iids : Iids) (direction : Direction) (fields whole : List FieldValue)
     (number : ℕ) (before : List FieldValue) (entries : List EntryData) (rest : List Bool)
     → InOrder entries → AllByRecursion IsSound entries
     → AllByRecursion (λ e. SentFits fields e (value_of fields (field_of e)))
@@ -184,9 +184,9 @@ pub again_along : (iids : Iids) (direction : Direction) (fields whole : List Fie
     → whole ≡ before ++ map (restored_field iids fields) (kept direction entries)
     → restore_from iids direction number before entries
     (written direction fields entries ++ rest) ≡ Ok (whole, rest)
-again_along iids direction fields whole number before [] rest order sound fits tokens w =
+again-along iids direction fields whole number before [] rest order sound fits tokens w =
     ap (λ all. Ok (all, rest)) (sym (append-nil before) ∙ sym w)
-again_along iids direction fields whole number before (e ∷ later) rest order sound fits tokens w =
+again-along iids direction fields whole number before (e ∷ later) rest order sound fits tokens w =
     elim (cases_Bool (covers e.direction direction)) [
       | inl t ↦
           let at : FieldAt = field_of e in
@@ -205,7 +205,7 @@ again_along iids direction fields whole number before (e ∷ later) rest order s
           let fits_here : SentFits before e value =
           SentBy-token fields before e.action e.length e.operator e.targets value
           (λ kind. sym
-          (token_stands iids direction fields before whole e later order.0 (sound.0.token kind)
+          (token-stands iids direction fields before whole e later order.0 (sound.0.token kind)
           t w ∙ tokens)) here.0
           in
           let onward : whole ≡ with_field before e (restored_value iids e value) ++ map
@@ -220,7 +220,7 @@ again_along iids direction fields whole number before (e ∷ later) rest order s
           ∙ ap (λ read. then_entry number read
           (λ v r. restore_from iids direction (number + 1) (with_field before e v) later r))
           (entry_at-again iids before e value more fits_here)
-          ∙ again_along iids direction fields whole (number + 1)
+          ∙ again-along iids direction fields whole (number + 1)
           (with_field before e (restored_value iids e value)) later rest order.1 sound.1 here.1
           tokens onward
       | inr f ↦
@@ -232,7 +232,7 @@ again_along iids direction fields whole number before (e ∷ later) rest order s
           ap (restore_from iids direction number before (e ∷ later)) front
           ∙ restore-unused iids direction number before e later
           (written direction fields later ++ rest) f
-          ∙ again_along iids direction fields whole (number + 1) before later rest order.1 sound.1
+          ∙ again-along iids direction fields whole (number + 1) before later rest order.1 sound.1
           (subst (AllByRecursion (λ d. SentFits fields d (value_of fields (field_of d))))
           (kept-unused direction e later f) fits) tokens
           (w ∙ ap (λ entries. before ++ map (restored_field iids fields) entries)

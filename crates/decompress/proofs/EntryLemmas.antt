@@ -24,7 +24,7 @@ use Rattle.rule_model.specs.Residue.{restored_by, restored_value}
 use Rattle.rule_model.proofs.ResidueLemmas.{same_bits-itself, index_of-cases, index_of-fits}
 use Rattle.decompress.specs.Reading.{then_read, taken_at, counted_at, size_at, value_at, target_or}
 use Rattle.decompress.specs.Reading.{target_at, after_target, lsb_at, value_by, entry_at}
-use Rattle.decompress.proofs.ReadLemmas.{ok_parts, then_read-ok, taken_at-again, taken_at-takes}
+use Rattle.decompress.proofs.ReadLemmas.{ok-parts, then_read-ok, taken_at-again, taken_at-takes}
 use Rattle.decompress.proofs.ReadLemmas.{counted_at-again, counted_at-takes, size_at-again}
 use Rattle.decompress.proofs.ReadLemmas.{size_at-takes}
 
@@ -81,11 +81,11 @@ abbrev pub SentFits : List FieldValue → EntryData → List Bool → Type 0
 SentFits fields e value = SentBy fields e.action e.length e.operator e.targets value
 
 -- a target with an index
-pub some_at : (targets : List (List Bool)) (i : ℕ) → i < length targets
+pub some-at : (targets : List (List Bool)) (i : ℕ) → i < length targets
     → slice_get targets i ≡ Some (get_or targets i [])
-some_at [] i h = absurd (omega arith)
-some_at (t ∷ targets) zero h = refl
-some_at (t ∷ targets) (suc i) h = some_at targets i (omega arith)
+some-at [] i h = absurd (omega arith)
+some-at (t ∷ targets) zero h = refl
+some-at (t ∷ targets) (suc i) h = some-at targets i (omega arith)
 
 some_within : (targets : List (List Bool)) (i : ℕ) (value : List Bool)
     → slice_get targets i ≡ Some value → (i < length targets) × (get_or targets i [] ≡ value)
@@ -97,9 +97,9 @@ some_within (t ∷ targets) (suc i) value e =
     (omega (arith, later.0), later.1)
 
 -- the index of a value is one of a target where there is one
-pub index_within : (targets : List (List Bool)) (value : List Bool) → 0 < length targets
+pub index-within : (targets : List (List Bool)) (value : List Bool) → 0 < length targets
     → index_of targets value < length targets
-index_within targets value h =
+index-within targets value h =
     elim (index_of-cases targets value) [
       | inl among ↦ among.0
       | inr none ↦
@@ -114,7 +114,7 @@ target-again : (targets : List (List Bool)) (value rest : List Bool) → 0 < len
 target-again targets value rest h =
     let at : slice_get targets (index_of targets value) ≡ Some
     (get_or targets (index_of targets value) []) =
-    some_at targets (index_of targets value) (index_within targets value h) in
+    some-at targets (index_of targets value) (index-within targets value h) in
     ap (λ read. then_read read (λ index more. target_or (slice_get targets index) more))
     (counted_at-again (index_width (length targets)) (index_of targets value) rest
     (index_of-fits targets value))
@@ -206,7 +206,7 @@ target-takes : (targets : List (List Bool)) (found : Option (List Bool))
 target-takes targets None value more rest e = absurd (cc)
 target-takes targets (Some target) value more rest e =
     let parts : (target ≡ value) × (more ≡ rest) =
-    ok_parts (target_or (Some target) more) target value more rest refl e in
+    ok-parts (target_or (Some target) more) target value more rest refl e in
     (ap Some parts.0, parts.1)
 
 mapped-takes : (targets : List (List Bool)) (bits value rest : List Bool) → (0 < length targets)
@@ -246,7 +246,7 @@ lsb-takes fields e bits value rest h q =
     let r = then_read-ok (value_at fields e.length x bits) (after_target x e.targets) value rest q
     in
     let parts : (front ++ r.0.0 ≡ value) × (r.0.1 ≡ rest) =
-    ok_parts (after_target x e.targets r.0.0 r.0.1) (front ++ r.0.0) value r.0.1 rest refl r.2
+    ok-parts (after_target x e.targets r.0.0 r.0.1) (front ++ r.0.0) value r.0.1 rest refl r.2
     in
     let sent : (bits ≡ with_size e.length r.0.0 ++ r.0.1) × FitsKind fields e.length x r.0.0 =
     value_at-takes fields e.length x bits r.0.0 r.0.1 r.1 in
@@ -264,7 +264,7 @@ takes_by : (iids : Iids) (fields : List FieldValue) (action : Action) (e : Entry
     → value_by iids fields action e bits ≡ Ok (value, rest)
     → TakenBy iids fields action e bits value rest
 takes_by iids fields NotSent e bits value rest h q = let p =
-    ok_parts (value_by iids fields NotSent e bits) (first_target e.targets) value bits rest refl q
+    ok-parts (value_by iids fields NotSent e bits) (first_target e.targets) value bits rest refl q
     in (p.1, p.0, tt)
 takes_by iids fields ValueSent e bits value rest h q = let p =
     value_at-takes fields e.length 0 bits value rest q in (p.0, refl, p.1)
@@ -272,14 +272,14 @@ takes_by iids fields MappingSent e bits value rest h q = let p =
     mapped-takes e.targets bits value rest h q in (p.0, p.1, h.0)
 takes_by iids fields Lsb e bits value rest h q = lsb-takes fields e bits value rest h q
 takes_by iids fields Compute e bits value rest h q = let p =
-    ok_parts (value_by iids fields Compute e bits)
+    ok-parts (value_by iids fields Compute e bits)
     (restored_by iids Compute e.name e.operator e.targets []) value bits rest refl q in
     (p.1, p.0, tt)
 takes_by iids fields DevIid e bits value rest h q = let p =
-    ok_parts (value_by iids fields DevIid e bits) (number_bits 64 iids.dev) value bits rest refl q
+    ok-parts (value_by iids fields DevIid e bits) (number_bits 64 iids.dev) value bits rest refl q
     in (p.1, p.0, tt)
 takes_by iids fields AppIid e bits value rest h q = let p =
-    ok_parts (value_by iids fields AppIid e bits) (number_bits 64 iids.app) value bits rest refl q
+    ok-parts (value_by iids fields AppIid e bits) (number_bits 64 iids.app) value bits rest refl q
     in (p.1, p.0, tt)
 
 -- where an entry reads a value, its residue stands in front of the bits left, the value is restored

@@ -29,18 +29,18 @@ use Rattle.decompress.specs.Reading.{restore_at}
 use Rattle.decompress.specs.Refusals.{IsRefusal}
 use Rattle.decompress.specs.Stands.{Stands, NoneStands}
 use Rattle.decompress.proofs.EntryLemmas.{SentFits}
-use Rattle.decompress.proofs.AlongLemmas.{kept, kept-used, kept-unused, IsSound, again_along}
-use Rattle.decompress.proofs.TakesLemmas.{apart_kept, IsFresh-none, IsTaken, takes_along}
+use Rattle.decompress.proofs.AlongLemmas.{kept, kept-used, kept-unused, IsSound, again-along}
+use Rattle.decompress.proofs.TakesLemmas.{apart-kept, IsFresh-none, IsTaken, takes-along}
 use Rattle.decompress.proofs.SoundLemmas.{Passes, Passes-from_EntryHolds, IsSound-from_Passes}
 use Rattle.decompress.proofs.SoundLemmas.{IsSendable-from_sent, WidthHolds-from_sent}
 use Rattle.decompress.proofs.SoundLemmas.{SentFits-from_sendable}
 
 -- what holds of each element
-pub all_from : {X : Type 0} → (P : X → Type 0) (xs : List X) → ((x : X) → Contains xs x → P x)
+pub all-from : {X : Type 0} → (P : X → Type 0) (xs : List X) → ((x : X) → Contains xs x → P x)
     → AllByRecursion P xs
-all_from P [] h = tt
-all_from P (x ∷ xs) h =
-    (h x (Contains-first x xs), all_from P xs (λ y among. h y (Contains-rest x xs y among)))
+all-from P [] h = tt
+all-from P (x ∷ xs) h =
+    (h x (Contains-first x xs), all-from P xs (λ y among. h y (Contains-rest x xs y among)))
 
 all_place : {X : Type 0} → (P : X → Type 0) (xs : List X) → AllByRecursion P xs → (x : X) (k : ℕ)
     → k < length xs → get_or xs k x ≡ x → P x
@@ -49,9 +49,9 @@ all_place P (y ∷ xs) h x zero l e = subst P e h.0
 all_place P (y ∷ xs) h x (suc k) l e = all_place P xs h.1 x k (omega arith) e
 
 -- what holds all along a list holds of each element in it
-pub all_at : {X : Type 0} → (P : X → Type 0) (xs : List X) → AllByRecursion P xs → (x : X)
+pub all-at : {X : Type 0} → (P : X → Type 0) (xs : List X) → AllByRecursion P xs → (x : X)
     → Contains xs x → P x
-all_at P xs h x among = all_place P xs h x among.0 among.1 among.2
+all-at P xs h x among = all_place P xs h x among.0 among.1 among.2
 
 -- an element that is kept by a test is one of the list, and passes
 unfilter_first : {X : Type 0} → (test : X → Bool) (y : X) (xs : List X) (x : X) → test y ≡ true
@@ -127,7 +127,7 @@ once_along iids direction whole (e ∷ later) apart =
     elim (cases_Bool (covers e.direction direction)) [
       | inl t ↦
           let others : AllByRecursion (λ d. same_field (field_of e) (field_of d) ≡ false)
-          (kept direction later) = apart_kept direction e later apart t in
+          (kept direction later) = apart-kept direction e later apart t in
           let first : (g : FieldValue)
           → Contains (map (restored_field iids whole) (kept direction later)) g
           → field_of e ≢ g.at =
@@ -139,7 +139,7 @@ once_along iids direction whole (e ∷ later) apart =
           (same_field-itself (field_of e)) in
           true≢false
           (sym passes
-          ∙ all_at (λ d. same_field (field_of e) (field_of d) ≡ false) (kept direction later)
+          ∙ all-at (λ d. same_field (field_of e) (field_of d) ≡ false) (kept direction later)
           others m.0 m.1)
           in
           subst (λ entries. AllPairs (λ f g. f.at ≢ g.at) (map (restored_field iids whole) entries))
@@ -152,17 +152,17 @@ once_along iids direction whole (e ∷ later) apart =
     ]
 
 -- each entry that is used is admitted
-pub passes_at : (rule : RuleData) (direction : Direction) → IsAdmitted rule → (e : EntryData)
+pub passes-at : (rule : RuleData) (direction : Direction) → IsAdmitted rule → (e : EntryData)
     → Contains (covered rule direction) e → Passes (stack_of rule) e
-passes_at rule direction admitted e among =
+passes-at rule direction admitted e among =
     Passes-from_EntryHolds (stack_of rule) e
     (EntryHolds-from_IsAdmitted rule admitted e
     (unfilter (λ d. covers d.direction direction) rule.entries e among).0)
 
 -- each entry of an admitted rule is as reading needs it
-pub sound_all : (rule : RuleData) → IsAdmitted rule → AllByRecursion IsSound rule.entries
-sound_all rule admitted =
-    all_from IsSound rule.entries
+pub sound-all : (rule : RuleData) → IsAdmitted rule → AllByRecursion IsSound rule.entries
+sound-all rule admitted =
+    all-from IsSound rule.entries
     (λ e among. IsSound-from_Passes (stack_of rule) e
     (Passes-from_EntryHolds (stack_of rule) e
     (EntryHolds-from_IsAdmitted rule admitted e among)))
@@ -179,11 +179,11 @@ sized_taken rule iids direction bits whole rest admitted taken =
     (subst (λ (all : List FieldValue). Contains all f) taken.restored among)
     in
     let fits : (e : EntryData) → Contains (covered rule direction) e → SentFits whole e (value e) =
-    λ e among. all_at (λ d. SentFits whole d (value d)) (covered rule direction) taken.fits e among
+    λ e among. all-at (λ d. SentFits whole d (value d)) (covered rule direction) taken.fits e among
     in
     let stays : (e : EntryData) → Contains (covered rule direction) e
     → restored_value iids e (value e) ≡ value e =
-    λ e among. all_at (λ d. restored_value iids d (value d) ≡ value d) (covered rule direction)
+    λ e among. all-at (λ d. restored_value iids d (value d) ≡ value d) (covered rule direction)
     taken.stays e among
     in
     record {
@@ -195,7 +195,7 @@ sized_taken rule iids direction bits whole rest admitted taken =
           let m = made f among in
           let own : WidthHolds m.0.name (value m.0) =
           WidthHolds-from_sent iids whole (stack_of rule) m.0 (value m.0)
-          (passes_at rule direction admitted m.0 m.1) (fits m.0 m.1) (stays m.0 m.1) in
+          (passes-at rule direction admitted m.0 m.1) (fits m.0 m.1) (stays m.0 m.1) in
           subst (λ (g : FieldValue). WidthHolds g.at.name g.value) m.2
           (subst (WidthHolds m.0.name) (sym (stays m.0 m.1)) own);
       sendable =
@@ -206,7 +206,7 @@ sized_taken rule iids direction bits whole rest admitted taken =
           ∙ ap (λ (g : FieldValue). g.value) m.2 in
           subst (IsSendable whole e) its
           (IsSendable-from_sent iids whole (stack_of rule) e (value e)
-          (passes_at rule direction admitted e used) (fits e used) (stays e used));
+          (passes-at rule direction admitted e used) (fits e used) (stays e used));
     }
 
 -- what is read stands there
@@ -216,9 +216,9 @@ pub Stands-from_read : (rule : RuleData) (iids : Iids) (direction : Direction)
     → Stands rule iids direction fields bits rest
 Stands-from_read rule iids direction fields bits rest admitted e =
     let taken : IsTaken iids direction [] rule.entries bits fields rest =
-    takes_along iids direction 1 [] rule.entries bits fields rest
+    takes-along iids direction 1 [] rule.entries bits fields rest
     (InOrder-from_IsAdmitted rule admitted) (AreApart-from_IsAdmitted rule admitted)
-    (sound_all rule admitted) (IsFresh-none (covered rule direction)) e
+    (sound-all rule admitted) (IsFresh-none (covered rule direction)) e
     in
     record {
       sized = sized_taken rule iids direction bits fields rest admitted taken;
@@ -250,11 +250,11 @@ pub value_of-there : (fields : List FieldValue) (f : FieldValue) → Contains fi
 value_of-there fields f among = there_place fields f.at f among.0 among.1 among.2 refl
 
 -- the value of a field that is there can be sent by its entry
-pub fits_at : (rule : RuleData) (direction : Direction) (fields : List FieldValue) → IsAdmitted rule
+pub fits-at : (rule : RuleData) (direction : Direction) (fields : List FieldValue) → IsAdmitted rule
     → IsSized rule direction fields → (e : EntryData) → Contains (covered rule direction) e
     → (f : FieldValue) → Contains fields f → field_of e ≡ f.at
     → SentFits fields e (value_of fields (field_of e))
-fits_at rule direction fields admitted sized e used f among at =
+fits-at rule direction fields admitted sized e used f among at =
     let g = value_of-there fields f among in
     let its : g.0.value ≡ value_of fields (field_of e) = sym g.3 ∙ ap (value_of fields) (sym at) in
     let own : field_of e ≡ g.0.at = at ∙ sym g.2 in
@@ -263,7 +263,7 @@ fits_at rule direction fields admitted sized e used f among at =
     (subst (λ (b : FieldAt). WidthHolds b.name g.0.value) (sym own) (sized.width_holds g.0 g.1))
     in
     SentFits-from_sendable fields (stack_of rule) e (value_of fields (field_of e))
-    (passes_at rule direction admitted e used) width
+    (passes-at rule direction admitted e used) width
     (subst (IsSendable fields e) its (sized.sendable g.0 e g.1 used own))
 
 -- what stands there is read
@@ -279,10 +279,10 @@ read-from_Stands rule iids direction fields bits rest admitted stands =
     (map_place (restored_field iids fields) (covered rule direction) e used.0 used.1 used.2)
     in
     ap (restore_at rule iids direction) stands.bits_are
-    ∙ again_along iids direction fields fields 1 [] rule.entries rest
-    (InOrder-from_IsAdmitted rule admitted) (sound_all rule admitted)
-    (all_from (λ e. SentFits fields e (value_of fields (field_of e))) (covered rule direction)
-    (λ e used. fits_at rule direction fields admitted stands.sized e used
+    ∙ again-along iids direction fields fields 1 [] rule.entries rest
+    (InOrder-from_IsAdmitted rule admitted) (sound-all rule admitted)
+    (all-from (λ e. SentFits fields e (value_of fields (field_of e))) (covered rule direction)
+    (λ e used. fits-at rule direction fields admitted stands.sized e used
     (restored_field iids fields e) (there e used) refl))
     refl stands.restored
 

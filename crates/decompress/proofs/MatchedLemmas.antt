@@ -30,14 +30,14 @@ use Rattle.rule_model.specs.Residue.{token_bits, restored_by, restored_value, re
 use Rattle.rule_model.specs.Residue.{restored_fields, IsSized}
 use Rattle.rule_model.proofs.ResidueLemmas.{same_bits-true, same_bits-itself, index_of-cases}
 use Rattle.rule_model.proofs.SizedLemmas.{same_field-true, same_field-itself, value_of-cases}
-use Rattle.rule_model.proofs.EntryRowsLemmas.{position_none, EntryHolds, EntryHolds-from_IsAdmitted}
+use Rattle.rule_model.proofs.EntryRowsLemmas.{position-none, EntryHolds, EntryHolds-from_IsAdmitted}
 use Rattle.rule_model.proofs.EntryRowsLemmas.{InOrder-from_IsAdmitted}
 use Rattle.decompress.specs.Reading.{restore_at}
-use Rattle.decompress.proofs.EntryLemmas.{SentFits, some_at}
-use Rattle.decompress.proofs.AlongLemmas.{token_length, value_of-lacks, Lacks-restored, again_along}
+use Rattle.decompress.proofs.EntryLemmas.{SentFits, some-at}
+use Rattle.decompress.proofs.AlongLemmas.{token_length, value_of-lacks, Lacks-restored, again-along}
 use Rattle.decompress.proofs.SoundLemmas.{Passes}
-use Rattle.decompress.proofs.LawLemmas.{all_from, all_at, unfilter, passes_at, sound_all}
-use Rattle.decompress.proofs.LawLemmas.{value_of-there, fits_at}
+use Rattle.decompress.proofs.LawLemmas.{all-from, all-at, unfilter, passes-at, sound-all}
+use Rattle.decompress.proofs.LawLemmas.{value_of-there, fits-at}
 
 -- the first target
 first_of : (targets : List (List Bool)) (value : List Bool) → slice_get targets 0 ≡ Some value
@@ -59,11 +59,11 @@ mapped_back : (targets : List (List Bool)) (value : List Bool) → Contains targ
 mapped_back targets value among =
     elim (index_of-cases targets value) [
       | inl h ↦
-          ap (λ found. unwrap_or found []) (some_at targets (index_of targets value) h.0)
+          ap (λ found. unwrap_or found []) (some-at targets (index_of targets value) h.0)
           ∙ same_bits-true (get_or targets (index_of targets value) []) value h.1
       | inr none ↦
           let fails : same_bits (get_or targets among.0 value) value ≡ false =
-          position_none (λ target. same_bits target value) targets none among.0 value among.1 in
+          position-none (λ target. same_bits target value) targets none among.0 value among.1 in
           let own : same_bits (get_or targets among.0 value) value ≡ true =
           subst (λ (t : List Bool). same_bits t value ≡ true) (sym among.2) (same_bits-itself value)
           in
@@ -158,7 +158,7 @@ length_restored rule iids direction fields computed admitted matches e used t =
     let holds : EntryHolds (stack_of rule) e =
     EntryHolds-from_IsAdmitted rule admitted e
     (unfilter (λ d. covers d.direction direction) rule.entries e used).0 in
-    let passes : Passes (stack_of rule) e = passes_at rule direction admitted e used in
+    let passes : Passes (stack_of rule) e = passes-at rule direction admitted e used in
     let lossy : is_lossy e.operator e.action ≡ false =
     elim (and_cases (is_lossy e.operator e.action) (is_needed e.name) holds.needed) [
       | inl l ↦ l
@@ -183,7 +183,7 @@ tokens_restored : (rule : RuleData) (iids : Iids) (direction : Direction) (field
 tokens_restored rule iids direction fields computed admitted matches =
     let stays =
     token_along iids fields (covered rule direction)
-    (all_from
+    (all-from
     (λ e. same_field (field_of e) token_length ≡ true
     → restored_value iids e (value_of fields (field_of e)) ≡ value_of fields (field_of e))
     (covered rule direction)
@@ -207,7 +207,7 @@ tokens_restored rule iids direction fields computed admitted matches =
                 in
                 absurd (true≢false
                 (sym passes
-                ∙ all_at (λ e. same_field (field_of e) token_length ≡ false)
+                ∙ all-at (λ e. same_field (field_of e) token_length ≡ false)
                 (covered rule direction) none its.0 its.1))
             | inr empty ↦ lacks ∙ sym empty
           ]
@@ -222,10 +222,10 @@ pub reads_back : (rule : RuleData) (iids : Iids) (direction : Direction) (fields
     → restore_at rule iids direction (residue_of rule direction fields ++ rest) ≡ Ok
     (restored_fields rule iids direction fields, rest)
 reads_back rule iids direction fields computed rest admitted matches sized =
-    again_along iids direction fields (restored_fields rule iids direction fields) 1 [] rule.entries
-    rest (InOrder-from_IsAdmitted rule admitted) (sound_all rule admitted)
-    (all_from (λ e. SentFits fields e (value_of fields (field_of e))) (covered rule direction)
+    again-along iids direction fields (restored_fields rule iids direction fields) 1 [] rule.entries
+    rest (InOrder-from_IsAdmitted rule admitted) (sound-all rule admitted)
+    (all-from (λ e. SentFits fields e (value_of fields (field_of e))) (covered rule direction)
     (λ e used.
     let there = matches.same_set.each_entry e used in
-    fits_at rule direction fields admitted sized e used there.0 there.1 there.2))
+    fits-at rule direction fields admitted sized e used there.0 there.1 there.2))
     (tokens_restored rule iids direction fields computed admitted matches) refl

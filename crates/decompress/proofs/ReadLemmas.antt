@@ -14,9 +14,9 @@ use Rattle.decompress.specs.Reading.{then_read, taken_at, counted_at, minimal, l
 use Rattle.decompress.specs.Reading.{byte_size_from, size_from, size_at}
 
 -- what is read at once is one
-pub ok_parts : {A E : Type 0} → (read : Result (A × List Bool) E) (a c : A) (b d : List Bool)
+pub ok-parts : {A E : Type 0} → (read : Result (A × List Bool) E) (a c : A) (b d : List Bool)
     → read ≡ Ok (a, b) → read ≡ Ok (c, d) → (a ≡ c) × (b ≡ d)
-ok_parts {A} read a c b d e f =
+ok-parts {A} read a c b d e f =
     let parts : (a, b) ≡ (c, d) = cc in
     (ap (λ (p : A × List Bool). p.0) parts, ap (λ (p : A × List Bool). p.1) parts)
 
@@ -124,7 +124,7 @@ minimal-takes least size number bits rest e =
       | inr l ↦
           let right : minimal least number bits ≡ Ok (number, bits) = rw (le-ltb number least l) in
           let parts : (number ≡ size) × (bits ≡ rest) =
-          ok_parts (minimal least number bits) number size bits rest right e in
+          ok-parts (minimal least number bits) number size bits rest right e in
           (parts.0, parts.1, omega (arith, parts.0))
     ]
 
@@ -200,7 +200,7 @@ first-takes number bits size rest h e =
       | inr other ↦
           let right : size_from number bits ≡ Ok (number, bits) = rw (ne_eqb number 15 other) in
           let parts : (number ≡ size) × (bits ≡ rest) =
-          ok_parts (size_from number bits) number size bits rest right e in
+          ok-parts (size_from number bits) number size bits rest right e in
           let under : size < 15 = omega (arith, parts.0) in
           (rw (parts.0, parts.1, size_code-short size under), omega arith)
     ]

@@ -30,8 +30,8 @@ use Rattle.rule_model.specs.Matches.{LengthHolds}
 use Rattle.rule_model.specs.Residue.{index_of, WidthHolds, TokenHolds, SizeHolds, IsSendable}
 use Rattle.rule_model.specs.Residue.{first_target, restored_by, restored_value}
 use Rattle.rule_model.proofs.EntryRowsLemmas.{EntryHolds}
-use Rattle.decompress.proofs.EntryLemmas.{FitsKind, SentBy, SentFits, RegularBy, some_at}
-use Rattle.decompress.proofs.EntryLemmas.{index_within}
+use Rattle.decompress.proofs.EntryLemmas.{FitsKind, SentBy, SentFits, RegularBy, some-at}
+use Rattle.decompress.proofs.EntryLemmas.{index-within}
 use Rattle.decompress.proofs.AlongLemmas.{IsSound}
 
 -- the tests that an admitted entry passes
@@ -199,10 +199,10 @@ fixed_by iids fields ValueSent operator name width targets value pair count comp
     regular sent restored = omega (arith, sent)
 fixed_by iids fields MappingSent operator name width targets value pair count computed kind lengths
     regular sent restored =
-    let within : index_of targets value < length targets = index_within targets value sent in
+    let within : index_of targets value < length targets = index-within targets value sent in
     ap length (sym restored)
     ∙ ap (λ found. length (unwrap_or found []))
-    (some_at targets (index_of targets value) within)
+    (some-at targets (index_of targets value) within)
     ∙ length_at width targets (index_of targets value) lengths within
 fixed_by iids fields Lsb Equal name width targets value pair count computed kind lengths regular
     sent restored = absurd (false≢true pair)
@@ -230,11 +230,11 @@ fixed_by iids fields AppIid operator name width targets value pair count compute
     ap length (sym restored) ∙ length-number_bits 64 iids.app
     ∙ sym (fixed_is name 64 width (app_width name computed) kind)
 
-pub fixed_length : (iids : Iids) (fields : List FieldValue) (stack : Stack) (e : EntryData)
+pub fixed-length : (iids : Iids) (fields : List FieldValue) (stack : Stack) (e : EntryData)
     (value : List Bool) → Passes stack e → SentFits fields e value
     → restored_value iids e value ≡ value → (width : ℕ) → e.length ≡ Fixed width
     → length value ≡ width
-fixed_length iids fields stack e value p sent restored width kind =
+fixed-length iids fields stack e value p sent restored width kind =
     fixed_by iids fields e.action e.operator e.name width e.targets value p.pair p.count p.computed
     (subst (λ k. is_length_of e.name k ≡ true) kind p.kind)
     (lengths_along stack e.name width e.targets
@@ -286,7 +286,7 @@ IsSendable-from_sent iids fields stack e value p sent restored =
     record {
       length_holds =
           length_holds e.name e.length value
-          (fixed_length iids fields stack e value p sent restored);
+          (fixed-length iids fields stack e value p sent restored);
       token_holds =
           token_holds fields e.name e.action e.length e.operator e.targets value p.kind sent;
       size_holds = size_holds fields e.length e.action e.operator e.targets value sent;
@@ -298,7 +298,7 @@ pub WidthHolds-from_sent : (iids : Iids) (fields : List FieldValue) (stack : Sta
     → restored_value iids e value ≡ value → WidthHolds e.name value
 WidthHolds-from_sent iids fields stack e value p sent restored =
     width_holds e.name e.length value p.kind
-    (fixed_length iids fields stack e value p sent restored)
+    (fixed-length iids fields stack e value p sent restored)
 
 -- a value that can be sent has the length that the other end reads
 fixed_width : (name : FieldName) (width : ℕ) (value : List Bool)

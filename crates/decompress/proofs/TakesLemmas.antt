@@ -18,13 +18,13 @@ use Rattle.rule_model.specs.Findings.{order_wrong}
 use Rattle.rule_model.specs.Residue.{same_field, value_of, entry_residue, restored_value}
 use Rattle.rule_model.specs.Residue.{restored_field}
 use Rattle.rule_model.proofs.SizedLemmas.{same_field-true, same_field-itself}
-use Rattle.rule_model.proofs.EntryRowsLemmas.{InOrder, AreApart, other_field}
+use Rattle.rule_model.proofs.EntryRowsLemmas.{InOrder, AreApart, other-field}
 use Rattle.decompress.specs.Reading.{entry_at, with_field, then_entry, restore_from}
-use Rattle.decompress.proofs.ReadLemmas.{ok_parts}
+use Rattle.decompress.proofs.ReadLemmas.{ok-parts}
 use Rattle.decompress.proofs.EntryLemmas.{SentFits, entry_at-takes}
-use Rattle.decompress.proofs.AlongLemmas.{kept, kept-used, kept-unused, kept_all, written}
+use Rattle.decompress.proofs.AlongLemmas.{kept, kept-used, kept-unused, kept-all, written}
 use Rattle.decompress.proofs.AlongLemmas.{restore-used, restore-unused, Lacks, Lacks-append}
-use Rattle.decompress.proofs.AlongLemmas.{value_of-found, token_stands, SentBy-token, IsSound}
+use Rattle.decompress.proofs.AlongLemmas.{value_of-found, token-stands, SentBy-token, IsSound}
 
 -- the test doesn't see the order
 same_field-flip : (a b : FieldAt) → same_field a b ≡ false → same_field b a ≡ false
@@ -65,13 +65,13 @@ fresh_next before f (d ∷ entries) h k =
     (Lacks-append before (f ∷ []) (field_of d) h.0 (k.0, tt), fresh_next before f entries h.1 k.1)
 
 -- the entries after one that is used, and are used themselves, are of other fields
-pub apart_kept : (direction : Direction) (e : EntryData) (later : List EntryData)
+pub apart-kept : (direction : Direction) (e : EntryData) (later : List EntryData)
     → AreApart (e ∷ later) → covers e.direction direction ≡ true
     → AllByRecursion (λ d. same_field (field_of e) (field_of d) ≡ false) (kept direction later)
-apart_kept direction e later apart t =
-    kept_all (λ d. same_field (field_of e) (field_of d) ≡ false) direction later
+apart-kept direction e later apart t =
+    kept-all (λ d. same_field (field_of e) (field_of d) ≡ false) direction later
     (λ d among used. same_field-flip (field_of d) (field_of e)
-    (other_field d e direction (apart.0 d among) used t))
+    (other-field d e direction (apart.0 d among) used t))
 
 -- what is read of the entries
 pub record IsTaken (iids : Iids) (direction : Direction) (before : List FieldValue)
@@ -125,7 +125,7 @@ taken_used iids direction before e later bits value more whole rest order sound 
     let fits_here : SentFits whole e (value_of whole (field_of e)) =
     subst (SentFits whole e) (sym own)
     (SentBy-token before whole e.action e.length e.operator e.targets value
-    (λ kind. token_stands iids direction whole before whole e later order (sound.token kind) t
+    (λ kind. token-stands iids direction whole before whole e later order (sound.token kind) t
     restored_all) fits)
     in
     record {
@@ -141,15 +141,15 @@ taken_used iids direction before e later bits value more whole rest order sound 
     }
 
 -- the fields that are read are those whose residue stands there
-pub takes_along : (iids : Iids) (direction : Direction) (number : ℕ) (before : List FieldValue)
+pub takes-along : (iids : Iids) (direction : Direction) (number : ℕ) (before : List FieldValue)
     (entries : List EntryData) (bits : List Bool) (whole : List FieldValue) (rest : List Bool)
     → InOrder entries → AreApart entries → AllByRecursion IsSound entries
     → IsFresh direction before entries
     → restore_from iids direction number before entries bits ≡ Ok (whole, rest)
     → IsTaken iids direction before entries bits whole rest
-takes_along iids direction number before [] bits whole rest order apart sound fresh e =
+takes-along iids direction number before [] bits whole rest order apart sound fresh e =
     let parts : (before ≡ whole) × (bits ≡ rest) =
-    ok_parts (restore_from iids direction number before [] bits) before whole bits rest refl e
+    ok-parts (restore_from iids direction number before [] bits) before whole bits rest refl e
     in
     record {
       restored = sym (append-nil before ∙ parts.0);
@@ -158,7 +158,7 @@ takes_along iids direction number before [] bits whole rest order apart sound fr
       stays =
           tt;
     }
-takes_along iids direction number before (e ∷ later) bits whole rest order apart sound fresh q =
+takes-along iids direction number before (e ∷ later) bits whole rest order apart sound fresh q =
     elim (cases_Bool (covers e.direction direction)) [
       | inl t ↦
           let r = then_entry-ok number (entry_at iids before e bits)
@@ -173,15 +173,15 @@ takes_along iids direction number before (e ∷ later) bits whole rest order apa
           in
           let fresh_later : IsFresh direction (with_field before e r.0.0) later =
           fresh_next before (field_with e r.0.0) (kept direction later) fresh_here.1
-          (apart_kept direction e later apart t)
+          (apart-kept direction e later apart t)
           in
           taken_used iids direction before e later bits r.0.0 r.0.1 whole rest order.0 sound.0
           fresh_here.0 t here.0 here.1 here.2
-          (takes_along iids direction (number + 1) (with_field before e r.0.0) later r.0.1 whole
+          (takes-along iids direction (number + 1) (with_field before e r.0.0) later r.0.1 whole
           rest order.1 apart.1 sound.1 fresh_later r.2)
       | inr f ↦
           let onward : IsTaken iids direction before later bits whole rest =
-          takes_along iids direction (number + 1) before later bits whole rest order.1 apart.1
+          takes-along iids direction (number + 1) before later bits whole rest order.1 apart.1
           sound.1
           (subst (AllByRecursion (λ d. Lacks before (field_of d))) (kept-unused direction e later f)
           fresh)

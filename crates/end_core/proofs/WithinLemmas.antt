@@ -61,37 +61,37 @@ bits_within {edition} {iids} {way} {bits} {packet} {id} frame e d =
     (subst (λ b. Decodes edition iids way b packet id) e d)
 
 -- a packet read from the bits of a frame has at most 65,575 bytes, or no more than the frame
-pub read_within : (edition : EditionData) (iids : Iids) (way : Direction) {bits : List Bool}
+pub read-within : (edition : EditionData) (iids : Iids) (way : Direction) {bits : List Bool}
     {read : Result UnpackedData UnpackFault} {unpacked : UnpackedData} (frame : FrameData)
     → bits ≡ carried frame → IfOk read (λ u. Decodes edition iids way bits u.packet u.rule_id)
     → read ≡ Ok unpacked → IsWithin frame unpacked.packet
-read_within edition iids way {bits} {read} {unpacked} frame e says is =
+read-within edition iids way {bits} {read} {unpacked} frame e says is =
     bits_within frame e
     (subst (λ r. IfOk r (λ u. Decodes edition iids way bits u.packet u.rule_id)) is says)
 
 -- and so is what is handed up
-pub up_within : (frame : FrameData) (number : ℕ) (read : UnpackedData) (report : Option Report)
+pub up-within : (frame : FrameData) (number : ℕ) (read : UnpackedData) (report : Option Report)
     (note : Note) (taken : Taken)
     → taken ≡ record { up = Some (up_of number read); report = report; note = note }
     → IsWithin frame read.packet
     → IfSome taken.up (λ up. IsWithin frame up.packet)
-up_within frame number read report note taken e h = rw e h
+up-within frame number read report note taken e h = rw e h
 
 -- what a frame makes whole has at most 65,575 bytes
-pub part_within : (frame : FrameData) (number : ℕ) (said : Note × Option Report)
+pub part-within : (frame : FrameData) (number : ℕ) (said : Note × Option Report)
     (joined : Option (Result UnpackedData UnpackFault))
     → IfSome joined (λ read. IfOk read (λ unpacked. length unpacked.packet ≤ max_ipv6_packet))
     → IfSome (taken_part number said joined).up (λ up. IsWithin frame up.packet)
 unfolding taken_part
-part_within frame number said None h = tt
-part_within frame number said (Some (Ok unpacked)) h = inl h
-part_within frame number said (Some (Err fault)) h = tt
+part-within frame number said None h = tt
+part-within frame number said (Some (Ok unpacked)) h = inl h
+part-within frame number said (Some (Err fault)) h = tt
 
 -- and the answer is never for want of memory
-pub part_note : (number : ℕ) (said : Note × Option Report)
+pub part-note : (number : ℕ) (said : Note × Option Report)
     (joined : Option (Result UnpackedData UnpackFault)) → IsNote said.0
     → IfSome joined IsAnswer → IsNote (taken_part number said joined).note
 unfolding taken_part
-part_note number said None h k = h
-part_note number said (Some (Ok unpacked)) h k = h
-part_note number said (Some (Err fault)) h k = k
+part-note number said None h k = h
+part-note number said (Some (Ok unpacked)) h k = h
+part-note number said (Some (Err fault)) h k = k

@@ -154,10 +154,10 @@ turns-by number world publications done before waiting (e ∷ events) waits =
     (turns-by number world publications done before waiting events as_before))
 
 -- the lines of the events that are dealt out to a device are those of its own events
-pub turns_law : (number : ℕ) (world : WorldData) (events : List ScriptEventData)
+pub turns-law : (number : ℕ) (world : WorldData) (events : List ScriptEventData)
     → lines_of_turns world (publications_in events) 0 (turns_in number 0 events)
     ≡ own_lines number world events
-turns_law number world events =
+turns-law number world events =
     sym (turns-by number world (publications_in events) 0 0 [] events
     (record { left = refl; all = refl }))
 
@@ -186,7 +186,7 @@ one-share dealt events device all own =
     let number : ℕ = device.number in
     ap (λ ps. share-by device ps (dealt_turns dealt number)) all
     ∙ ap (share-by device (publications_in events)) own
-    ∙ ap (λ lines. (number, lines)) (turns_law number (first_world device.params) events)
+    ∙ ap (λ lines. (number, lines)) (turns-law number (first_world device.params) events)
 
 shares-of : (dealt : Dealt) (events : List ScriptEventData) (devices : List DeviceLine)
     → dealt_publications dealt ≡ publications_in events → HaveTurns devices events dealt
@@ -202,9 +202,9 @@ shares-of dealt events (device ∷ devices) all each =
     (λ number there. each number (or-right (device.number == number) _ there)))
 
 -- what is dealt out to the devices gives their shares
-pub dealt_shares : (devices : List DeviceLine) (events : List ScriptEventData) (dealt : Dealt)
+pub dealt-shares : (devices : List DeviceLine) (events : List ScriptEventData) (dealt : Dealt)
     → IsDealt devices events dealt → map (share_from dealt) devices ≡ map (share_of events) devices
-dealt_shares devices events dealt is = shares-of dealt events devices is.all is.each
+dealt-shares devices events dealt is = shares-of dealt events devices is.all is.each
 
 -- what is dealt out where these events are left
 pub record IsDealtTo (devices : List DeviceLine) (events left : List ScriptEventData)
@@ -252,8 +252,8 @@ module _ (devices : List DeviceLine) (events rest : List ScriptEventData) (e : S
       ∙ all
 
   -- one event more is dealt out
-  pub dealt_next : IsDealtTo devices events rest more
-  dealt_next =
+  pub dealt-next : IsDealtTo devices events rest more
+  dealt-next =
       record {
         all = next-publications;
         each = λ number there.

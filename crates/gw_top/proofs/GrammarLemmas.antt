@@ -14,7 +14,7 @@ use Rattle.std.proofs.lemmas.Slice.Eq.{bytes_eq-Decides}
 use Rattle.std.proofs.lemmas.Bool.{and_parts, cases_lt, leb-true, ltb-true}
 use Rattle.std.proofs.lemmas.Bool.Decides.{nat_tests}
 use Rattle.script_lang.specs.Text.{is_numeral, number_of}
-use Rattle.script_lang.proofs.TextLemmas.{digits_model, list_all-all_ascii_digits}
+use Rattle.script_lang.proofs.TextLemmas.{digits-model, list_all-all_ascii_digits}
 use Rattle.script_lang.proofs.SpellingLemmas.{number-again}
 use Rattle.schc_ids.specs.Limits.{max_devices}
 use Rattle.gw_top.specs.declared.words.Command.{Command}
@@ -54,7 +54,7 @@ spelled limit word n true small facts h =
     let e : digits_value 10 word ≡ n = cc in
     subst (λ m. (word ≡ decimal m) × (m < limit)) e (
       sym
-          (decimal-digits_value digits_model word (numeral-digits word f.0) (numeral-some word f.0)
+          (decimal-digits_value digits-model word (numeral-digits word f.0) (numeral-some word f.0)
           (numeral-lead word f.0) (omega arith)),
       f.1,
     )
@@ -291,8 +291,8 @@ command-again words (Load devices start workers) s =
     rw s.3 (load-again devices start workers s.0 s.2 s.1)
 
 -- the command of a call is the one for which its words ask as a sentence
-pub sentences_are_read : SentencesAreRead
-sentences_are_read words c = (command-ok words c, command-again words c)
+pub sentences-are-read : SentencesAreRead
+sentences-are-read words c = (command-ok words c, command-again words c)
 
 -- ---- where the reading of words stops
 
@@ -577,8 +577,8 @@ told-at words place (Err stop) e bad =
     e ∙ ap Err (same-place words stop place first bad)
 
 -- a call is refused with the first bad place of its words
-pub bad_places_are_told : BadPlacesAreTold
-bad_places_are_told words place = (
+pub bad-places-are-told : BadPlacesAreTold
+bad-places-are-told words place = (
   λ h. first-bad words place h (command-stops words place h),
   told-at words place (command_of words) refl,
 )

@@ -13,10 +13,10 @@ use Rattle.script_lang.specs.Ranges.{HaveParams}
 use Rattle.gw_top.specs.Groups.{joined, IsEven, IsShared, shares_in}
 
 -- what holds of each item holds at each place
-pub all_index : {A : Type 0} (P : A → Type 0) (xs : List A) → AllByRecursion P xs → All P xs
-all_index P [] all k d less = absurd (omega arith)
-all_index P (x ∷ xs) all zero d less = all.0
-all_index P (x ∷ xs) all (suc k) d less = all_index P xs all.1 k d (omega arith)
+pub all-index : {A : Type 0} (P : A → Type 0) (xs : List A) → AllByRecursion P xs → All P xs
+all-index P [] all k d less = absurd (omega arith)
+all-index P (x ∷ xs) all zero d less = all.0
+all-index P (x ∷ xs) all (suc k) d less = all-index P xs all.1 k d (omega arith)
 
 -- a slice's list
 abbrev pub now_of : Bor (List DeviceLine) → List DeviceLine
@@ -45,11 +45,11 @@ params-each (group ∷ groups) all =
     (parts.0, params-each groups parts.1)
 
 -- the devices of each group have parameters that ends may be made with, as all have
-pub group_params : (groups : List (Bor (List DeviceLine))) (devices : List DeviceLine)
+pub group-params : (groups : List (Bor (List DeviceLine))) (devices : List DeviceLine)
     → joined (map now_of groups) ≡ devices → HaveParams devices
     → All (λ (group : Bor (List DeviceLine)). HaveParams group.now) groups
-group_params groups devices all range =
-    all_index (λ (group : Bor (List DeviceLine)). HaveParams group.now) groups
+group-params groups devices all range =
+    all-index (λ (group : Bor (List DeviceLine)). HaveParams group.now) groups
     (params-each groups (subst HaveParams (sym all) range))
 
 -- what all groups have, where the others are read
@@ -75,22 +75,22 @@ module _ {A E : Type 0} (share : DeviceLine → ℕ × List Line) where
       → i < length groups → IsShared share (slice_index_or groups i g).now (slice_index_or made i m)
 
   -- the shares of all groups are those of all devices
-  pub all_shared : (groups : List (Bor (List DeviceLine)))
+  pub all-shared : (groups : List (Bor (List DeviceLine)))
       (made : List (Result (Vec (ℕ × List Line) A) E)) (all : List (ℕ × List Line))
       → length made ≡ length groups → Shared groups made
       → shares_in made ≡ Some all → all ≡ map share (joined (map now_of groups))
-  all_shared [] [] all same each whole = none all whole
+  all-shared [] [] all same each whole = none all whole
     where
       none : (xs : List (ℕ × List Line)) → Some [] ≡ Some xs → xs ≡ []
       none xs h = cc
-  all_shared [] (m ∷ made) all same each whole = absurd (omega arith)
-  all_shared (group ∷ groups) [] all same each whole = absurd (omega arith)
-  all_shared (group ∷ groups) (Ok shares ∷ made) all same each whole =
+  all-shared [] (m ∷ made) all same each whole = absurd (omega arith)
+  all-shared (group ∷ groups) [] all same each whole = absurd (omega arith)
+  all-shared (group ∷ groups) (Ok shares ∷ made) all same each whole =
       behind share group.now (joined (map now_of groups)) shares.items all (shares_in made)
       (each 0 group (Ok shares) (omega arith))
-      (λ rest is. all_shared groups made rest (omega arith)
+      (λ rest is. all-shared groups made rest (omega arith)
       (λ i g m less. each (suc i) g m (omega arith)) is) whole
-  all_shared (group ∷ groups) (Err fault ∷ made) all same each whole = absurd (cc)
+  all-shared (group ∷ groups) (Err fault ∷ made) all same each whole = absurd (cc)
 
 -- what is left for one more group
 mul-more : (k size : ℕ) → (k + 1) * size ≡ k * size + size
@@ -102,9 +102,9 @@ extra place longer true is = let less : place < longer = ltb-true place longer i
 extra place longer false is = let past : longer ≤ place = ltb-false place longer is in omega arith
 
 -- one group less is to be cut of what is left
-pub cut_less : (workers place size longer : ℕ) → place < workers
+pub cut-less : (workers place size longer : ℕ) → place < workers
     → (workers - place) * size + (longer - place) ≡ ((workers - (place + 1)) * size + (longer - (place + 1))) + (size + cond (nat_lt place longer) 1 0)
-cut_less workers place size longer less =
+cut-less workers place size longer less =
     let step : workers - place ≡ (workers - (place + 1)) + 1 = omega arith in
     let parts = mul-more (workers - (place + 1)) size in
     let more = extra place longer (nat_lt place longer) refl in
@@ -119,20 +119,20 @@ even_last size [] group all one = (one, tt)
 even_last size (first ∷ groups) group all one = (all.0, even_last size groups group all.1 one)
 
 -- groups of so many devices, or one more, stay so when another such group comes behind them
-pub even_step : (size : ℕ) (groups more : List (Bor (List DeviceLine)))
+pub even-step : (size : ℕ) (groups more : List (Bor (List DeviceLine)))
     (group : Bor (List DeviceLine)) → more ≡ groups ++ group ∷ []
     → AllByRecursion (λ (g : Bor (List DeviceLine)). IsEven size g.now) groups
     → IsEven size group.now → AllByRecursion (λ (g : Bor (List DeviceLine)). IsEven size g.now) more
-even_step size groups more group pushed all one =
+even-step size groups more group pushed all one =
     subst (AllByRecursion (λ (g : Bor (List DeviceLine)). IsEven size g.now)) (sym pushed)
     (even_last size groups group all one)
 
 -- the groups and what is left stay the devices, where the front of what is left is one more group
-pub joined_step : (groups more : List (Bor (List DeviceLine))) (group : Bor (List DeviceLine))
+pub joined-step : (groups more : List (Bor (List DeviceLine))) (group : Bor (List DeviceLine))
     (left back devices : List DeviceLine) (n : ℕ) → more ≡ groups ++ group ∷ []
     → group.now ≡ take n left → back ≡ drop n left → joined (map now_of groups) ++ left ≡ devices
     → joined (map now_of more) ++ back ≡ devices
-joined_step groups more group left back devices n pushed front behind_it all =
+joined-step groups more group left back devices n pushed front behind_it all =
     ap (λ gs. joined (map now_of gs) ++ back) pushed
     ∙ ap (λ lists. joined lists ++ back) (map-append now_of groups (group ∷ []))
     ∙ ap (λ list. list ++ back) (joined_last (map now_of groups) group.now)

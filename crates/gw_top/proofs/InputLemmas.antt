@@ -13,11 +13,11 @@ use Rattle.schc_ids.specs.Limits.{max_input}
 use Rattle.gw_top.specs.Answers.{Call, IsRead, IsInput, GivesInput, IsGiven}
 
 -- what came whole is the command's input
-pub input_given : {A : Type 0} (reads : Bool) (call : Call) (text : Vec ℕ A)
+pub input-given : {A : Type 0} (reads : Bool) (call : Call) (text : Vec ℕ A)
     → GivesInput reads (Ok text) call.source call.source_after → IsInput reads call text.items
-input_given true call text gave =
+input-given true call text gave =
     record { consumed = gave.0.2; ended = gave.0.3; within = gave.0.0 }
-input_given false call text gave = gave
+input-given false call text gave = gave
 
 content-is : (left : Option (List ℕ)) (bytes text : List ℕ) → IsContent left bytes
     → left ≡ Some text → text ≡ bytes
@@ -26,21 +26,21 @@ content-is (Some rest) bytes text is told =
     let same : rest ≡ text = cc in sym same ∙ is
 
 -- the text that the source tells is the one that came whole
-pub text_given : {A : Type 0} (reads : Bool) (call : Call) (bytes : Vec ℕ A) (text : List ℕ)
+pub text-given : {A : Type 0} (reads : Bool) (call : Call) (bytes : Vec ℕ A) (text : List ℕ)
     → GivesInput reads (Ok bytes) call.source call.source_after → IsGiven reads call text
     → (text ≡ bytes.items) × (nat_lt max_input (length text) ≡ false)
-text_given true call bytes text gave given =
+text-given true call bytes text gave given =
     let same = content-is call.source.left bytes.items text gave.0.1 given.0 in
     let within = gave.0.0 in
     (same, rw same (grind (arith, nat_tests)))
-text_given false call bytes text gave given = (given ∙ sym gave.0, rw given refl)
+text-given false call bytes text gave given = (given ∙ sym gave.0, rw given refl)
 
 -- no reading fails of a source of which no call failed
-pub fault_given : (A : Type 0) (reads : Bool) (call : Call) (text : List ℕ)
+pub fault-given : (A : Type 0) (reads : Bool) (call : Call) (text : List ℕ)
     → GivesInput {A = A} reads (Err Fault) call.source call.source_after → IsGiven reads call text
     → ⊥
-fault_given A true call text gave given = given.1 (gave.1 refl)
-fault_given A false call text gave given = gave
+fault-given A true call text gave given = given.1 (gave.1 refl)
+fault-given A false call text gave given = gave
 
 more-is : (left : Option (List ℕ)) (text : List ℕ) → HasMore left max_input → left ≡ Some text
     → max_input < length text
@@ -49,9 +49,9 @@ more-is (Some rest) text more told =
     let same : rest ≡ text = cc in subst (λ (l : List ℕ). max_input < length l) same more
 
 -- a source that has too many bytes tells so many
-pub long_given : (A : Type 0) (reads : Bool) (call : Call) (text : List ℕ)
+pub long-given : (A : Type 0) (reads : Bool) (call : Call) (text : List ℕ)
     → GivesInput {A = A} reads (Err TooLong) call.source call.source_after → IsGiven reads call text
     → nat_lt max_input (length text) ≡ true
-long_given A true call text gave given =
+long-given A true call text gave given =
     let more = more-is call.source.left text gave.0.0 given.0 in grind (arith, nat_tests)
-long_given A false call text gave given = absurd gave
+long-given A false call text gave given = absurd gave

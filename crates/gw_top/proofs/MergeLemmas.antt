@@ -214,63 +214,63 @@ module _ (devices : List DeviceLine) (before rest : List ScriptEventData) (e : S
       }
 
 -- a share that is put into the map, over what the map has and under the shares that are left
-pub share_step : (left had : Option (List Line)) (lines : List Line) (b : Bool)
+pub share-step : (left had : Option (List Line)) (lines : List Line) (b : Bool)
     → option_or left (cond b (Some lines) had) ≡ option_or
     (option_or left (if b then Some lines else None)) had
-share_step None had lines true = refl
-share_step None had lines false = refl
-share_step (Some found) had lines true = refl
-share_step (Some found) had lines false = refl
+share-step None had lines true = refl
+share-step None had lines false = refl
+share-step (Some found) had lines true = refl
+share-step (Some found) had lines false = refl
 
 -- What `take_line` answers, and what it leaves.
 module _ (devices : List DeviceLine) (before rest : List ScriptEventData) (e : ScriptEventData)
   where
     -- the first of the publications' lines, where the event is one
-    pub published_line_is : (published after : List Line) (own : ℕ → Option (List Line))
+    pub published_line-is : (published after : List Line) (own : ℕ → Option (List Line))
         (result : Option Line) → is_publication e.event ≡ true
         → IfSome result (λ line. published ≡ line ∷ after) → IfNone result (published ≡ [])
         → IsLeft devices before (e ∷ rest) published own → result ≡ Some (outcome devices before e)
-    published_line_is published after own (Some line) is first none left =
+    published_line-is published after own (Some line) is first none left =
         ap Some (same line after _ _
         (sym first ∙ first-published devices before rest e published own left is))
       where
         same : (x : Line) (xs : List Line) (y : Line) (ys : List Line) → x ∷ xs ≡ y ∷ ys → x ≡ y
         same x xs y ys h = cc
-    published_line_is published after own None is first none left =
+    published_line-is published after own None is first none left =
         absurd (empty _ _ (sym none ∙ first-published devices before rest e published own left is))
       where
         empty : (y : Line) (ys : List Line) → [] ≡ y ∷ ys → ⊥
         empty y ys h = cc
 
-    pub published_left : (published after : List Line) (own : ℕ → Option (List Line))
+    pub published-left : (published after : List Line) (own : ℕ → Option (List Line))
         (result : Option Line) → is_publication e.event ≡ true
         → IfSome result (λ line. published ≡ line ∷ after) → IfNone result (published ≡ [])
         → IsLeft devices before (e ∷ rest) published own
         → IsLeft devices (before ++ e ∷ []) rest after own
-    published_left published after own (Some line) is first none left =
+    published-left published after own (Some line) is first none left =
         left-published devices before rest e published own left is after line first
-    published_left published after own None is first none left =
+    published-left published after own None is first none left =
         absurd (empty _ _ (sym none ∙ first-published devices before rest e published own left is))
       where
         empty : (y : Line) (ys : List Line) → [] ≡ y ∷ ys → ⊥
         empty y ys h = cc
 
     -- the first of its device's lines, where it is none
-    pub own_line_is : (published : List Line) (own : ℕ → Option (List Line)) (result : Option Line)
+    pub own_line-is : (published : List Line) (own : ℕ → Option (List Line)) (result : Option Line)
         (number : ℕ) → number ≡ e.device → is_publication e.event ≡ false
         → ((line : Line) (lines : List Line) → own number ≡ Some (line ∷ lines) → result ≡ Some line)
         → IsOwned devices e → IsLeft devices before (e ∷ rest) published own
         → result ≡ Some (outcome devices before e)
-    own_line_is published own result number same is first owned left =
+    own_line-is published own result number same is first owned left =
         first _ _ (ap own same ∙ first-own devices before rest e published own left is owned)
 
-    pub own_left : (published : List Line) (own after : ℕ → Option (List Line)) (number : ℕ)
+    pub own-left : (published : List Line) (own after : ℕ → Option (List Line)) (number : ℕ)
         → number ≡ e.device → is_publication e.event ≡ false
         → ((line : Line) (lines : List Line) → own number ≡ Some (line ∷ lines) → (other : ℕ)
         → after other ≡ (if nat_eq number other then Some lines else own other))
         → IsOwned devices e → IsLeft devices before (e ∷ rest) published own
         → IsLeft devices (before ++ e ∷ []) rest published after
-    own_left published own after number same is changed owned left =
+    own-left published own after number same is changed owned left =
         left-own devices before rest e published own left after is
         (λ n. changed _ _ (ap own same ∙ first-own devices before rest e published own left is owned)
         n
@@ -311,16 +311,16 @@ module _ (devices : List DeviceLine) (events left rest : List ScriptEventData) (
   merged-here = subst (λ l. IsMergedTo devices events l lines published own) here m
 
   -- a line is taken next: that of the event
-  pub merged_line : result ≡ Some (outcome devices merged-here.before e)
-  merged_line = is devices merged-here.before rest merged-here.owned.0 merged-here.lines_left
+  pub merged-line : result ≡ Some (outcome devices merged-here.before e)
+  merged-line = is devices merged-here.before rest merged-here.owned.0 merged-here.lines_left
 
-  pub merged_next : (more published' : List Line) (own' : ℕ → Option (List Line)) (line : Line)
+  pub merged-next : (more published' : List Line) (own' : ℕ → Option (List Line)) (line : Line)
       → ((declared : List DeviceLine) (before after : List ScriptEventData) → IsOwned declared e
       → IsLeft declared before (e ∷ after) published own
       → IsLeft declared (before ++ e ∷ []) after published' own')
       → result ≡ Some line → more ≡ lines ++ line ∷ []
       → IsMergedTo devices events rest more published' own'
-  merged_next more published' own' line leaves found pushed =
+  merged-next more published' own' line leaves found pushed =
       record {
         before = merged-here.before ++ e ∷ [];
         all =
@@ -328,7 +328,7 @@ module _ (devices : List DeviceLine) (events left rest : List ScriptEventData) (
             ∙ append_assoc lines (line ∷ [])
             (outcomes_after devices (merged-here.before ++ e ∷ []) rest)
             ∙ ap (λ l. lines ++ (l ∷ outcomes_after devices (merged-here.before ++ e ∷ []) rest))
-            (same line _ (sym found ∙ merged_line))
+            (same line _ (sym found ∙ merged-line))
             ∙ merged-here.all;
         owned = merged-here.owned.1;
         lines_left =
@@ -339,9 +339,9 @@ module _ (devices : List DeviceLine) (events left rest : List ScriptEventData) (
       same x y h = cc
 
 -- the event at a place, and those behind it
-pub drop_step : (events : List ScriptEventData) (i : ℕ) (e : ScriptEventData) → i < length events
+pub drop-step : (events : List ScriptEventData) (i : ℕ) (e : ScriptEventData) → i < length events
     → e ≡ get_or events i e → drop i events ≡ e ∷ drop (i + 1) events
-drop_step events i e within is =
+drop-step events i e within is =
     let next : suc i ≡ i + 1 = omega arith in
     drop-cons events i e within ∙ ap (λ x. x ∷ drop (suc i) events) (sym is)
     ∙ ap (λ n. e ∷ drop n events) next
@@ -353,11 +353,11 @@ drop_end (e ∷ events) zero past = absurd (omega arith)
 drop_end (e ∷ events) (suc i) past = drop_end events i (omega arith)
 
 -- at the end the lines are the outcomes
-pub merged_last : (devices : List DeviceLine) (events : List ScriptEventData) (i : ℕ)
+pub merged-last : (devices : List DeviceLine) (events : List ScriptEventData) (i : ℕ)
     (lines published : List Line) (own : ℕ → Option (List Line)) → length events ≤ i
     → IsMergedTo devices events (drop i events) lines published own
     → lines ≡ outcomes_after devices [] events
-merged_last devices events i lines published own past m =
+merged-last devices events i lines published own past m =
     let at_end : IsMergedTo devices events [] lines published own =
     subst (λ l. IsMergedTo devices events l lines published own) (drop_end events i past) m in
     sym (append-nil lines) ∙ at_end.all

@@ -16,9 +16,9 @@ pub said_first : (lines : List Line) (line : Line) (rest : List Line) → lines 
 said_first lines line rest same all = subst (AllByRecursion IsSaid) same all
 
 -- lines that tell of no want of memory stay so when one that was taken and tells of none is last
-pub said_more : (lines more : List Line) (line : Line) (result : Option Line)
+pub said-more : (lines more : List Line) (line : Line) (result : Option Line)
     → more ≡ lines ++ line ∷ [] → result ≡ Some line → IfSome result IsSaid
     → AllByRecursion IsSaid lines → AllByRecursion IsSaid more
-said_more lines more line result pushed found one all =
+said-more lines more line result pushed found one all =
     subst (AllByRecursion IsSaid) (sym pushed)
     (said_last lines line all (subst (λ r. IfSome r IsSaid) found one))

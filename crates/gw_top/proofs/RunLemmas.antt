@@ -94,9 +94,9 @@ same-ok : {A : Type 0} (x y : A) (found : Result A ScriptFault) → found ≡ Ok
 same-ok x y found first second = cc
 
 -- a text that was read as a script has a safe run
-pub safe_text : (workers : ℕ) (text : List ℕ) (script : ScriptData) → ParsesTo text script
+pub safe-text : (workers : ℕ) (text : List ℕ) (script : ScriptData) → ParsesTo text script
     → IsSafeRun script → IsSafeFor (Sim workers) text
-safe_text workers text script parses safe =
+safe-text workers text script parses safe =
     λ other also. subst IsSafeRun (same-ok script other (script_of text) parses also) safe
 
 -- what `sim` wrote is the print of the run of the script that it read
@@ -229,13 +229,13 @@ share-first number events (device ∷ devices) own there =
     not-true false h = refl
 
 -- before the first event all outcomes are left
-pub left_first : (devices : List DeviceLine) (events : List ScriptEventData) (published : List Line)
+pub left-first : (devices : List DeviceLine) (events : List ScriptEventData) (published : List Line)
     (own : ℕ → Option (List Line)) (shares : List (ℕ × List Line)) → have_own_numbers devices ≡ true
     → published ≡ published_lines (first_edition ∷ []) events
     → shares ≡ map (share_of events) devices → ((number : ℕ) → own number ≡ share_in number shares)
     → IsLeft devices [] events published own
 unfolding chain_of world_of first_world
-left_first devices events published own shares numbers first all each =
+left-first devices events published own shares numbers first all each =
     record {
       publications = first;
       each = λ number there. each number ∙ ap (share_in number) all

@@ -27,8 +27,8 @@ use Rattle.ip_udp_fields.specs.Join.{value_refusals, join_refusal, values_in, he
 use Rattle.rule_model.proofs.FirstLemmas.{first_held-none, first_held-front, first_held-append_none}
 use Rattle.ip_udp_fields.proofs.OrderLemmas.{are_distinct, with_value, order-all, presence-all}
 use Rattle.ip_udp_fields.proofs.SpanLemmas.{span-headers, HaveWidths, length-values_in}
-use Rattle.ip_udp_fields.proofs.SpanLemmas.{pieces-values_in, unmirror, mirror, to_packet_order}
-use Rattle.ip_udp_fields.proofs.SpanLemmas.{from_packet_order}
+use Rattle.ip_udp_fields.proofs.SpanLemmas.{pieces-values_in, unmirror, mirror, to-packet-order}
+use Rattle.ip_udp_fields.proofs.SpanLemmas.{from-packet-order}
 
 -- what the three groups of conditions say
 pub record NoneHeld (of : Stack) (direction : Direction) (fields : List FieldValue)
@@ -99,7 +99,7 @@ pub widths-are : (of : Stack) (direction : Direction) (fields : List FieldValue)
     → HaveWidths direction fields (fields_of_stack of)
 widths-are of direction fields size h none =
     mirror (λ n. length (value_of fields n) ≡ bits_of n) of direction h
-    (from_packet_order (λ n. length (value_of fields n) ≡ bits_of n) of direction h
+    (from-packet-order (λ n. length (value_of fields n) ≡ bits_of n) of direction h
     (seconds (λ n. value_in fields n ≡ Some (value_of fields n))
     (λ n. length (value_of fields n) ≡ bits_of n) (fields_in_packet_order of direction)
     (presence-all fields (fields_in_packet_order of direction) none.present)))
@@ -259,7 +259,7 @@ joined-fields of direction fields payload h e =
           fields-are of direction fields (length payload) h none
           ∙ same_fields direction (bytes_of (padded bits) ++ payload) fields
           (fields_in_packet_order of direction)
-          (to_packet_order
+          (to-packet-order
           (λ n. piece (place_of direction n) (bits_of n)
           (bytes_of (padded bits) ++ payload) ≡ value_of fields n) of direction h pieces);
       its_payload = refl;

@@ -183,17 +183,17 @@ mirror P stack.IpUdp Down h
 mirror P stack.IpUdpCoap direction h a = absurd h
 
 -- what holds of each field of the table holds of each field in packet order
-pub to_packet_order : (P : FieldName → Type 0) (of : Stack) (direction : Direction)
+pub to-packet-order : (P : FieldName → Type 0) (of : Stack) (direction : Direction)
     → IsWithoutCoap of → AllByRecursion P (fields_of_stack of)
     → AllByRecursion P (fields_in_packet_order of direction)
-to_packet_order P stack.Ip direction h a = mirror P stack.Ip direction h a
-to_packet_order P stack.IpUdp direction h a = mirror P stack.IpUdp direction h a
-to_packet_order P stack.IpUdpCoap direction h a = absurd h
+to-packet-order P stack.Ip direction h a = mirror P stack.Ip direction h a
+to-packet-order P stack.IpUdp direction h a = mirror P stack.IpUdp direction h a
+to-packet-order P stack.IpUdpCoap direction h a = absurd h
 
 -- and the other way round
-pub from_packet_order : (P : FieldName → Type 0) (of : Stack) (direction : Direction)
+pub from-packet-order : (P : FieldName → Type 0) (of : Stack) (direction : Direction)
     → IsWithoutCoap of → AllByRecursion P (fields_in_packet_order of direction)
     → AllByRecursion P (fields_of_stack of)
-from_packet_order P stack.Ip direction h a = unmirror P stack.Ip direction h a
-from_packet_order P stack.IpUdp direction h a = unmirror P stack.IpUdp direction h a
-from_packet_order P stack.IpUdpCoap direction h a = absurd h
+from-packet-order P stack.Ip direction h a = unmirror P stack.Ip direction h a
+from-packet-order P stack.IpUdp direction h a = unmirror P stack.IpUdp direction h a
+from-packet-order P stack.IpUdpCoap direction h a = absurd h

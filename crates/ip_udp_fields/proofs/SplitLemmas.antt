@@ -27,7 +27,7 @@ use Rattle.ip_udp_fields.specs.Join.{value_refusals, join_refusal, values_in}
 use Rattle.rule_model.proofs.FirstLemmas.{first_held-from_none, first_held-append_none}
 use Rattle.ip_udp_fields.proofs.PlaceLemmas.{is_within, fields_in_packet_order-within}
 use Rattle.ip_udp_fields.proofs.RefusalLemmas.{refusal-is_packet, header_size-is_packet}
-use Rattle.ip_udp_fields.proofs.SpanLemmas.{span-headers, values_in-pieces, mirror, to_packet_order}
+use Rattle.ip_udp_fields.proofs.SpanLemmas.{span-headers, values_in-pieces, mirror, to-packet-order}
 use Rattle.ip_udp_fields.proofs.SumLemmas.{number_in-below}
 
 -- the bits of the packet in which the field of the name stands
@@ -77,13 +77,13 @@ fields_found-udp Down packet = (
   ),
 )
 
-pub fields_found : (of : Stack) (direction : Direction) (packet : List ℕ) → IsWithoutCoap of
+pub fields-found : (of : Stack) (direction : Direction) (packet : List ℕ) → IsWithoutCoap of
     → AllByRecursion
     (λ n. value_in (fields_in of direction packet) n ≡ Some (field_bits direction packet n))
     (fields_of_stack of)
-fields_found stack.Ip direction packet h = fields_found-ip direction packet
-fields_found stack.IpUdp direction packet h = fields_found-udp direction packet
-fields_found stack.IpUdpCoap direction packet h = absurd h
+fields-found stack.Ip direction packet h = fields_found-ip direction packet
+fields-found stack.IpUdp direction packet h = fields_found-udp direction packet
+fields-found stack.IpUdpCoap direction packet h = absurd h
 
 pub ordered : (of : Stack) (direction : Direction) (packet : List ℕ) → IsWithoutCoap of
     → first_held
@@ -212,26 +212,26 @@ right stack.IpUdp direction packet p =
 right stack.IpUdpCoap direction packet p = absurd p
 
 -- a packet as it is described here is one of a stack without CoAP
-pub without_coap : (of : Stack) (packet : List ℕ) → IsPacketOf of packet → IsWithoutCoap of
-without_coap stack.Ip packet p = tt
-without_coap stack.IpUdp packet p = tt
-without_coap stack.IpUdpCoap packet p = absurd p
+pub without-coap : (of : Stack) (packet : List ℕ) → IsPacketOf of packet → IsWithoutCoap of
+without-coap stack.Ip packet p = tt
+without-coap stack.IpUdp packet p = tt
+without-coap stack.IpUdpCoap packet p = absurd p
 
 -- what a packet was split into isn't refused
-pub joins_again : (of : Stack) (direction : Direction) (packet : List ℕ) (fields : List FieldValue)
+pub joins-again : (of : Stack) (direction : Direction) (packet : List ℕ) (fields : List FieldValue)
     (from : ℕ) → FieldsOf of direction packet fields from
     → join_refusal of direction fields (length (drop from packet)) ≡ None
 unfolding join_refusal
-joins_again of direction packet fields from f =
-    let h : IsWithoutCoap of = without_coap of packet f.is_packet in
+joins-again of direction packet fields from f =
+    let h : IsWithoutCoap of = without-coap of packet f.is_packet in
     let names : List FieldName = fields_in_packet_order of direction in
     let its : List FieldValue = fields_in of direction packet in
     let size : ℕ = length packet - header_size of in
     let long : header_size of ≤ length packet = header_size-is_packet of packet f.is_packet in
     let none_absent : first_held (presence its names) ≡ None =
     present its (field_bits direction packet) names
-    (to_packet_order (λ n. value_in its n ≡ Some (field_bits direction packet n)) of direction h
-    (fields_found of direction packet h))
+    (to-packet-order (λ n. value_in its n ≡ Some (field_bits direction packet n)) of direction h
+    (fields-found of direction packet h))
     (lengths of direction packet names long (fields_in_packet_order-within of direction h))
     in
     let none : first_held
@@ -268,7 +268,7 @@ headers of direction packet h =
     let all =
     mirror (λ n. value_of its n ≡ field_bits direction packet n) of direction h
     (values its (field_bits direction packet) (fields_of_stack of)
-    (fields_found of direction packet h)) in
+    (fields-found of direction packet h)) in
     let whole : 8 * header_size of - 0 ≡ 8 * header_size of = omega arith in
     let joined : values_in direction its (fields_of_stack of) ≡ take (8 * header_size of - 0)
     (octets packet) =
@@ -284,7 +284,7 @@ pub one_packet : (of : Stack) (direction : Direction) (this that : List ℕ)
     → FieldsOf of direction this fields here → FieldsOf of direction that fields there
     → drop here this ≡ drop there that → this ≡ that
 one_packet of direction this that fields here there a b f g e =
-    let h : IsWithoutCoap of = without_coap of this f.is_packet in
+    let h : IsWithoutCoap of = without-coap of this f.is_packet in
     let size : ℕ = header_size of in
     let same : fields_in of direction this ≡ fields_in of direction that = sym f.its_fields
     ∙ g.its_fields in
@@ -305,10 +305,10 @@ one_packet of direction this that fields here there a b f g e =
     ∙ take-append-drop size that
 
 -- a packet has one list of fields, and one place of its payload
-pub one_split : (of : Stack) (direction : Direction) (packet : List ℕ)
+pub one-split : (of : Stack) (direction : Direction) (packet : List ℕ)
     (these those : List FieldValue) (here there : ℕ) → FieldsOf of direction packet these here
     → FieldsOf of direction packet those there → (these ≡ those) × (here ≡ there)
-one_split of direction packet these those here there f g =
+one-split of direction packet these those here there f g =
     (f.its_fields ∙ sym g.its_fields, f.its_payload ∙ sym g.its_payload)
 
 is_difference : (number front all : ℕ) → number + front ≡ all → number ≡ all - front
@@ -352,6 +352,6 @@ not_refused stack.IpUdp packet p =
 not_refused stack.IpUdpCoap packet p = absurd p
 
 -- no condition refuses a packet exactly where it is one of the stack
-pub refuses_exactly : (of : Stack) (packet : List ℕ) → IsWithoutCoap of
+pub refuses-exactly : (of : Stack) (packet : List ℕ) → IsWithoutCoap of
     → (refusal of packet ≡ None) ↔ IsPacketOf of packet
-refuses_exactly of packet h = (refusal-is_packet of packet h, not_refused of packet)
+refuses-exactly of packet h = (refusal-is_packet of packet h, not_refused of packet)

@@ -31,8 +31,8 @@ use Rattle.aa_sender.specs.Steps.{window_of, fragment_of, fragment_bytes, bytes_
 use Rattle.aa_sender.specs.declared.states.AaSenderState.TheVariants.{Sending, Waiting, Quiet}
 use Rattle.aa_sender.proofs.ArrivalLemmas.{tile_arrives, last_arrives}
 use Rattle.aa_sender.proofs.KeptLemmas.{begins_one}
-use Rattle.aa_sender.proofs.SenderLemmas.{window_of_below, regular_is, can_regular, can_all1}
-use Rattle.aa_sender.proofs.SenderLemmas.{stands_there}
+use Rattle.aa_sender.proofs.SenderLemmas.{window_of_below, regular-is, can_regular, can_all1}
+use Rattle.aa_sender.proofs.SenderLemmas.{stands-there}
 use Rattle.sessions.specs.Receivers.{new_receiver, receiver_taken, receiver_previewed, receiver_due}
 use Rattle.sessions.specs.Receivers.{receiver_answered}
 use Rattle.sessions.specs.Senders.{sender_begun, sender_due, sender_phase, sender_sent}
@@ -196,13 +196,13 @@ more-round s i ticks t is h k =
     let si : AaSenderData = at_tile s i in
     let w : ℕ = window_of i in
     let here : IsAaSender si =
-    stands_there s (Sending i false 0) is (omega (arith, h), omega arith, λ e. absurd cc) in
+    stands-there s (Sending i false 0) is (omega (arith, h), omega arith, λ e. absurd cc) in
     let other : i == last_index s ≡ false =
     ne_eqb i (last_index s) (λ e. absurd (omega (arith, e, h))) in
     let tile : List Bool = tile_at s i in
     let kept : List Bool = joined (take i (packet_tiles s)) in
     let can : CanSpell s.params side.Fragments (form.Regular w 0 2) tile =
-    can_regular s.params w 2 tile is.row (window_of_below i) (regular_is s i is h).least in
+    can_regular s.params w 2 tile is.row (window_of_below i) (regular-is s i is h).least in
     let bound = packet-bound s.params s.mtu s.bits i is.in_range is.most in
     let next : joined (take (suc i) (packet_tiles s)) ≡ kept ++ tile =
     joined-next (packet_tiles s) i in
@@ -325,7 +325,7 @@ last-round : (s : AaSenderData) (ticks : TimerTicks) (t : Talk) → IsAaSender s
 last-round s ticks t is k =
     let i : ℕ = last_index s in
     let here : IsAaSender (at_tile s i) =
-    stands_there s (Sending i false 0) is (omega arith, omega arith, λ e. absurd cc) in
+    stands-there s (Sending i false 0) is (omega arith, omega arith, λ e. absurd cc) in
     let same : i == last_index s ≡ true = eq-eqb i (last_index s) refl in
     let tile : List Bool = last_payload s in
     let kept : List Bool = joined (take i (packet_tiles s)) in

@@ -30,7 +30,7 @@ use Rattle.no_ack.specs.SenderSteps.{fragment_of, bytes_due}
 use Rattle.no_ack.specs.declared.states.NoAckSenderState.TheVariants.{Sending, Quiet}
 use Rattle.no_ack.proofs.ArrivalLemmas.{tile_arrives, last_arrives}
 use Rattle.no_ack.proofs.KeptLemmas.{begins_one}
-use Rattle.no_ack.proofs.SenderLemmas.{moved, regular_is, can_regular, can_all1}
+use Rattle.no_ack.proofs.SenderLemmas.{moved, regular-is, can_regular, can_all1}
 use Rattle.sessions.specs.Receivers.{new_receiver, receiver_taken, receiver_previewed, receiver_due}
 use Rattle.sessions.specs.Senders.{sender_begun, sender_due, sender_phase, sender_sent}
 use Rattle.sessions.specs.Session.{sent_kind}
@@ -156,7 +156,7 @@ more-round s i ticks t is h k =
     let bytes : List ℕ = bytes_due s.params (fragment_of si i false) in
     let tile : List Bool = tile_at s i in
     let can : CanSpell s.params side.Fragments (form.Regular 0 0 1) tile =
-    can_regular s.params 0 1 tile is.row refl (regular_is s i is h).0 in
+    can_regular s.params 0 1 tile is.row refl (regular-is s i is h).0 in
     let bound = packet-bound s.params s.mtu s.bits i is.in_range is.most in
     let next : receiver.kept_by k.r ++ tile ≡ joined (take (suc i) (packet_tiles s)) =
     ap (λ (list : List Bool). list ++ tile) k.kept_is ∙ sym (joined-next (packet_tiles s) i) in

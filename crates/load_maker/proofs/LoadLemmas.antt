@@ -21,16 +21,16 @@ use Rattle.load_maker.specs.Load.{link_local, app_iid, load_packet, at, frames_u
 next-number : (n : ℕ) → n + 1 ≡ suc n
 next-number n = omega arith
 
-pub draws_step : (k count x : ℕ) → k < count → draws (count - k) x ≡ draw_of (next_state x) ∷ draws
+pub draws-step : (k count x : ℕ) → k < count → draws (count - k) x ≡ draw_of (next_state x) ∷ draws
     (count - (k + 1)) (next_state x)
 unfolding draws
-draws_step k count x h =
+draws-step k count x h =
     let e : count - k ≡ suc (count - (k + 1)) = omega (arith, h) in
     rw e refl
 
-pub draws_none : (count x : ℕ) → draws (count - count) x ≡ []
+pub draws-none : (count x : ℕ) → draws (count - count) x ≡ []
 unfolding draws
-draws_none count x = let e : count - count ≡ 0 = omega arith in rw e refl
+draws-none count x = let e : count - count ≡ 0 = omega arith in rw e refl
 
 -- ---- lists of the numbers below another
 
@@ -57,9 +57,9 @@ flat_more f n =
     rw (next-number n) (flat-append f (below n) (n ∷ []) ∙ ap (λ zs. flat_map f (below n) ++ zs)
     (append-nil (f n)))
 
-pub payload_more : (draw n : ℕ) → payload draw (n + 1) ≡ payload draw n ++ ((draw + n) % 256) ∷ []
+pub payload-more : (draw n : ℕ) → payload draw (n + 1) ≡ payload draw n ++ ((draw + n) % 256) ∷ []
 unfolding payload
-payload_more draw n = one_more (λ i. (draw + i) % 256) n
+payload-more draw n = one_more (λ i. (draw + i) % 256) n
 
 length-below : (n : ℕ) → length (below n) ≡ n
 length-below zero = refl
@@ -69,9 +69,9 @@ length-map : {A B : Type 0} (f : A → B) (xs : List A) → length (map f xs) �
 length-map f [] = refl
 length-map f (x ∷ xs) = ap (λ n. suc n) (length-map f xs)
 
-pub length_payload : (draw n : ℕ) → length (payload draw n) ≡ n
+pub length-payload : (draw n : ℕ) → length (payload draw n) ≡ n
 unfolding payload
-length_payload draw n = length-map (λ i. (draw + i) % 256) (below n) ∙ length-below n
+length-payload draw n = length-map (λ i. (draw + i) % 256) (below n) ∙ length-below n
 
 -- ---- devices
 
@@ -132,19 +132,19 @@ known (suc n) k h = declared-more n k ∙ last-or-before n k (n == k) refl h
 
 -- ---- frames and draws
 
-pub frames_step : (device number k count : ℕ) → k < count → frames_up device (number + k)
+pub frames-step : (device number k count : ℕ) → k < count → frames_up device (number + k)
     (count - k)
     ≡ at device (Slot Device) ∷ at device (Deliver way.Up (number + k)) ∷ frames_up device
     (number + (k + 1)) (count - (k + 1))
 unfolding frames_up
-frames_step device number k count h =
+frames-step device number k count h =
     let e : count - k ≡ suc (count - (k + 1)) = omega (arith, h) in
     let f : (number + k) + 1 ≡ number + (k + 1) = omega arith in
     rw (e, f) refl
 
-pub frames_none : (device number count : ℕ) → frames_up device number (count - count) ≡ []
+pub frames-none : (device number count : ℕ) → frames_up device number (count - count) ≡ []
 unfolding frames_up
-frames_none device number count = let e : count - count ≡ 0 = omega arith in rw e refl
+frames-none device number count = let e : count - count ≡ 0 = omega arith in rw e refl
 
 -- the place of the draw that a device takes in a round is one of the places of three rounds
 pub within : (round devices device : ℕ) → round < 3 → device < devices
@@ -157,74 +157,74 @@ within (suc (suc (suc n))) devices device h d = absurd (omega (arith, h))
 -- ---- one more in a loop
 
 -- a list with one more item at its end is longer by one
-pub length_pushed : {A : Type 0} (list more : List A) (x : A) (k : ℕ) → more ≡ list ++ x ∷ []
+pub length-pushed : {A : Type 0} (list more : List A) (x : A) (k : ℕ) → more ≡ list ++ x ∷ []
     → length list ≡ k → length more ≡ k + 1
-length_pushed list more x k pushed before = ap length pushed ∙ length-append list (x ∷ [])
+length-pushed list more x k pushed before = ap length pushed ∙ length-append list (x ∷ [])
     ∙ rw before refl
 
 -- with the next draw behind them, the draws made and those still to make are the same as before
-pub draws_pushed : (list more : List ℕ) (count k start old next draw : ℕ) → k < count → list
+pub draws-pushed : (list more : List ℕ) (count k start old next draw : ℕ) → k < count → list
     ++ draws (count - k) old ≡ draws count start
     → next ≡ next_state old → draw ≡ draw_of next → more ≡ list ++ draw ∷ [] → more ++ draws
     (count - (k + 1)) next ≡ draws count start
-draws_pushed list more count k start old next draw h all n d pushed =
+draws-pushed list more count k start old next draw h all n d pushed =
     rw (pushed, d, n) (append_assoc list (draw_of (next_state old) ∷ [])
     (draws (count - (k + 1)) (next_state old))
-    ∙ ap (λ ds. list ++ ds) (sym (draws_step k count old h)) ∙ all)
+    ∙ ap (λ ds. list ++ ds) (sym (draws-step k count old h)) ∙ all)
 
 -- where no draw is left to make, all are made
-pub draws_all : (list : List ℕ) (count k start state : ℕ) → count ≤ k → list ++ draws
+pub draws-all : (list : List ℕ) (count k start state : ℕ) → count ≤ k → list ++ draws
     (count - k) state ≡ draws count start → list ≡ draws count start
 unfolding draws
-draws_all list count k start state h all =
+draws-all list count k start state h all =
     let e : count - k ≡ 0 = omega (arith, h) in
     sym (append-nil list) ∙ subst (λ n. list ++ draws n state ≡ draws count start) e all
 
 -- a payload of no bytes adds nothing to what stands before it
-pub payload_none : (front : List ℕ) (draw : ℕ) → front ≡ front ++ payload draw 0
+pub payload-none : (front : List ℕ) (draw : ℕ) → front ≡ front ++ payload draw 0
 unfolding payload
-payload_none front draw = sym (append-nil front)
+payload-none front draw = sym (append-nil front)
 
 -- with its next byte, which counts up from the draw, the payload is that of one byte more
-pub payload_pushed : (front items more : List ℕ) (draw i byte : ℕ) → items ≡ front ++ payload draw i
+pub payload-pushed : (front items more : List ℕ) (draw i byte : ℕ) → items ≡ front ++ payload draw i
     → more ≡ items ++ byte ∷ [] → byte ≡ (draw + i) % 256
     → more ≡ front ++ payload draw (i + 1)
-payload_pushed front items more draw i byte before pushed is =
-    rw (payload_more draw i, pushed, before, is)
+payload-pushed front items more draw i byte before pushed is =
+    rw (payload-more draw i, pushed, before, is)
     (append_assoc front (payload draw i) (((draw + i) % 256) ∷ []))
 
 -- with the slot and the arrival of the next frame behind them, the events told
 -- and those of the frames still to go up are the same as before
-pub frames_pushed : (device number k count : ℕ) (start now mid end : List ScriptEventData)
+pub frames-pushed : (device number k count : ℕ) (start now mid end : List ScriptEventData)
     → k < count
     → now ++ frames_up device (number + k) (count - k) ≡ start ++ frames_up device number count
     → mid ≡ now ++ at device (Slot Device) ∷ [] → end ≡ mid ++ at device
     (Deliver way.Up (number + k)) ∷ []
     → end ++ frames_up device (number + (k + 1)) (count - (k + 1)) ≡ start
     ++ frames_up device number count
-frames_pushed device number k count start now mid end h all first second =
+frames-pushed device number k count start now mid end h all first second =
     let left = frames_up device (number + (k + 1)) (count - (k + 1)) in
     let slot = at device (Slot Device) in
     let deliver = at device (Deliver way.Up (number + k)) in
     rw (second, first) (append_assoc (now ++ slot ∷ []) (deliver ∷ []) left ∙ append_assoc now
     (slot ∷ []) (deliver ∷ left)
-    ∙ ap (λ events. now ++ events) (sym (frames_step device number k count h)) ∙ all)
+    ∙ ap (λ events. now ++ events) (sym (frames-step device number k count h)) ∙ all)
 
 -- with two more, the events are still two for each frame beside those at the start
-pub length_two : (now mid end : List ScriptEventData) (x y : ScriptEventData) (n k : ℕ) → mid ≡ now
+pub length-two : (now mid end : List ScriptEventData) (x y : ScriptEventData) (n k : ℕ) → mid ≡ now
     ++ x ∷ [] → end ≡ mid ++ y ∷ [] → length now ≡ n + 2 * k
     → length end ≡ n + 2 * (k + 1)
-length_two now mid end x y n k first second before =
-    let a = length_pushed now mid x (n + 2 * k) first before in
-    let b = length_pushed mid end y (n + 2 * k + 1) second a in
+length-two now mid end x y n k first second before =
+    let a = length-pushed now mid x (n + 2 * k) first before in
+    let b = length-pushed mid end y (n + 2 * k + 1) second a in
     b ∙ omega arith
 
 -- where no frame is left to go up, the events of all are told, behind those at the start
-pub frames_all : (device number k count : ℕ) (start now : List ScriptEventData) → count ≤ k
+pub frames-all : (device number k count : ℕ) (start now : List ScriptEventData) → count ≤ k
     → now ++ frames_up device (number + k) (count - k) ≡ start ++ frames_up device number count
     → now ≡ start ++ frames_up device number count
 unfolding frames_up
-frames_all device number k count start now h all =
+frames-all device number k count start now h all =
     let e : count - k ≡ 0 = omega (arith, h) in
     sym (append-nil now) ∙ subst (λ n. now ++ frames_up device (number + k) n ≡ start
     ++ frames_up device number count) e all
@@ -292,4 +292,4 @@ size-least draw = omega arith
 pub packet_length : (device draw : ℕ) → length (load_packet device draw) ≡ packet_size draw
 unfolding load_packet
 packet_length device draw = omega
-    (arith, length_payload draw (packet_size draw - 40), size-least draw)
+    (arith, length-payload draw (packet_size draw - 40), size-least draw)

@@ -59,9 +59,9 @@ join-128 : (f : Totals → ℕ) (xs ys : List Totals) (a b : ℕ) → a ≡ sum_
 join-128 f xs ys a b h k = omega (arith, h, k, sum_by-append f xs ys)
 
 -- nothing has the sums over no totals
-pub wrapped_none : (r : Totals) → r ≡ nothing → IsWrapped [] r
+pub wrapped-none : (r : Totals) → r ≡ nothing → IsWrapped [] r
 unfolding nothing
-wrapped_none r is = rw is (record {
+wrapped-none r is = rw is (record {
   packets_sum = refl;
   frames_sum = refl;
   up_sum = refl;
@@ -70,10 +70,10 @@ wrapped_none r is = rw is (record {
 })
 
 -- one more
-pub wrapped_more : (xs : List Totals) (a x r : Totals) → IsWrapped xs a → r ≡ together a x
+pub wrapped-more : (xs : List Totals) (a x r : Totals) → IsWrapped xs a → r ≡ together a x
     → IsWrapped (xs ++ x ∷ []) r
 unfolding together
-wrapped_more xs a x r h is = rw is (record {
+wrapped-more xs a x r h is = rw is (record {
   packets_sum = more-64 packets xs x a.packets h.packets_sum;
   frames_sum = more-64 frames xs x a.frames h.frames_sum;
   up_sum = more-64 up xs x a.up h.up_sum;
@@ -82,10 +82,10 @@ wrapped_more xs a x r h is = rw is (record {
 })
 
 -- two parts side by side
-pub wrapped_joined : (xs ys : List Totals) (a b r : Totals) → IsWrapped xs a → IsWrapped ys b
+pub wrapped-joined : (xs ys : List Totals) (a b r : Totals) → IsWrapped xs a → IsWrapped ys b
     → r ≡ together a b → IsWrapped (xs ++ ys) r
 unfolding together
-wrapped_joined xs ys a b r h k is = rw is (record {
+wrapped-joined xs ys a b r h k is = rw is (record {
   packets_sum = join-64 packets xs ys a.packets b.packets h.packets_sum k.packets_sum;
   frames_sum = join-64 frames xs ys a.frames b.frames h.frames_sum k.frames_sum;
   up_sum = join-64 up xs ys a.up b.up h.up_sum k.up_sum;
@@ -218,11 +218,11 @@ totals-whole ls r short most h =
     rw (sym e1, sym e2, sym e3, sym e4, sym e5) refl
 
 -- the same, where the totals of the lines were made by threads, from what each made of its own
-pub totals_gathered : (zs : List (Bor Line)) (ls : List Line) (ys : List Totals) (r : Totals)
+pub totals-gathered : (zs : List (Bor Line)) (ls : List Line) (ys : List Totals) (r : Totals)
     → map (λ (z : Bor Line). z.now) zs ≡ ls
     → AllZip Counts zs ys
     → length ls < 2 ^ 63 → IsWrapped ys r → r ≡ totals ls
-totals_gathered zs ls ys r shown each short h =
+totals-gathered zs ls ys r shown each short h =
     let numbers = AllZip-weaken Counts (λ z y. y ≡ totals_in z.now)
     (λ z y both. both.0) zs ys each in
     let same = slice-map zs ls shown totals_in ys numbers in

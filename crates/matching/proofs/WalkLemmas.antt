@@ -23,7 +23,7 @@ use Rattle.rule_model.specs.Findings.{repeats, IsAdmitted}
 use Rattle.rule_model.specs.Matches.{Matches}
 use Rattle.rule_model.specs.Residue.{same_field}
 use Rattle.rule_model.specs.Tests.{agrees, does_match}
-use Rattle.rule_model.proofs.EntryRowsLemmas.{AreApart, AreApart-from_IsAdmitted, other_field}
+use Rattle.rule_model.proofs.EntryRowsLemmas.{AreApart, AreApart-from_IsAdmitted, other-field}
 use Rattle.rule_model.proofs.SizedLemmas.{same_field-true, same_field-itself, Contains-first}
 use Rattle.rule_model.proofs.SizedLemmas.{Contains-rest}
 use Rattle.rule_model.proofs.TestLemmas.{agrees-true, agrees-from, match-tested}
@@ -88,7 +88,7 @@ others direction e (x ∷ later) t apart d among =
           (subst (λ (xs : List EntryData). Contains xs d) kept among)) [
             | inl same ↦ λ one.
                 let other : same_field (field_of x) (field_of e) ≡ false =
-                other_field x e direction (apart x (Contains-first x later)) c t in
+                other-field x e direction (apart x (Contains-first x later)) c t in
                 true≢false
                 (sym (same_field-from (field_of x) (field_of e)
                 (ap (λ (y : EntryData). field_of y) same ∙ one)) ∙ other)

@@ -33,7 +33,7 @@ use Rattle.no_ack.specs.SenderState.{tile_at, last_index}
 use Rattle.no_ack.specs.SenderSteps.{fragment_of, bytes_due, due_in, due_message}
 use Rattle.no_ack.specs.declared.states.NoAckSenderState.{NoAckSenderState}
 use Rattle.no_ack.specs.declared.states.NoAckSenderState.TheVariants.{Sending, Closing, Quiet}
-use Rattle.no_ack.proofs.SenderLemmas.{regular_is, regular_whole, last_is, row-bits, can_regular}
+use Rattle.no_ack.proofs.SenderLemmas.{regular-is, regular_whole, last_is, row-bits, can_regular}
 use Rattle.no_ack.proofs.SenderLemmas.{can_all1, can_abort, room_regular, room_all1, room_abort}
 
 rcs_of-below : (bits : List Bool) → rcs_of bits < 2 ^ 32
@@ -61,7 +61,7 @@ fragment-fits sender i true e is h =
     )
 fragment-fits sender i false e is h =
     let other = eqb-false i (last_index sender) e in
-    let tile = regular_is sender i is (omega (arith, h, other)) in (
+    let tile = regular-is sender i is (omega (arith, h, other)) in (
       can_regular sender.params 0 1 (tile_at sender i) is.row refl tile.0,
       room_regular sender.params
           0 1 sender.mtu (tile_at sender i) is.row tile.1,

@@ -78,10 +78,10 @@ is_tile sender ends i is e h =
     }
 
 -- how long tiles are
-pub regular_is : (sender : NoAckSenderData) (i : ℕ) → IsNoAckSender sender → i < last_index sender
+pub regular-is : (sender : NoAckSenderData) (i : ℕ) → IsNoAckSender sender → i < last_index sender
     → (8 ≤ length (tile_at sender i)) × (length (tile_at sender i) + 1 ≤ 8 * sender.mtu)
 unfolding last_index
-regular_is sender i is h =
+regular-is sender i is h =
     let all : length (packet_tiles sender) ≡ length
     (tile_sizes sender.params sender.mtu (length sender.bits)) =
     length-tiles sender.params sender.mtu sender.bits

@@ -43,8 +43,8 @@ use Rattle.rule_model.proofs.SizedLemmas.{same_field-itself, Contains-first, Con
 use Rattle.rule_model.proofs.EntryRowsLemmas.{AreApart, AreApart-from_IsAdmitted, EntryHolds}
 use Rattle.rule_model.proofs.EntryRowsLemmas.{EntryHolds-from_IsAdmitted}
 use Rattle.decompress.proofs.AlongLemmas.{kept, kept-used, kept-unused}
-use Rattle.decompress.proofs.TakesLemmas.{apart_kept}
-use Rattle.decompress.proofs.LawLemmas.{all_at, unfilter}
+use Rattle.decompress.proofs.TakesLemmas.{apart-kept}
+use Rattle.decompress.proofs.LawLemmas.{all-at, unfilter}
 use Rattle.ip_udp_fields.specs.Layout.{IsWithoutCoap}
 use Rattle.ip_udp_fields.specs.Fields.{at_name}
 use Rattle.ip_udp_fields.specs.Join.{value_in}
@@ -71,46 +71,46 @@ Contains-map f (y ∷ xs) x h =
     ]
 
 -- a test that passes on each element
-pub passes_each : {X : Type 0} (test : X → Bool) (xs : List X) → list_all test xs ≡ true → (x : X)
+pub passes-each : {X : Type 0} (test : X → Bool) (xs : List X) → list_all test xs ≡ true → (x : X)
     → Contains xs x → test x ≡ true
-passes_each test [] h x among = absurd (omega (arith, among.1))
-passes_each test (y ∷ xs) h x among =
+passes-each test [] h x among = absurd (omega (arith, among.1))
+passes-each test (y ∷ xs) h x among =
     let parts = and_parts (test y) (list_all test xs) h in
     elim (Contains-parts y xs x among) [
       | inl e ↦ subst (λ z. test z ≡ true) e parts.0
-      | inr rest ↦ passes_each test xs parts.1 x rest
+      | inr rest ↦ passes-each test xs parts.1 x rest
     ]
 
 -- where each element of a list passes a test, whether all do is computed to true
-pub each_passes : {X : Type 0} (test : X → Bool) (xs : List X)
+pub each-passes : {X : Type 0} (test : X → Bool) (xs : List X)
     → ((x : X) → Contains xs x → test x ≡ true) → list_all test xs ≡ true
-each_passes test [] h = refl
-each_passes test (x ∷ xs) h =
+each-passes test [] h = refl
+each-passes test (x ∷ xs) h =
     and_from (test x) (list_all test xs) (h x (Contains-first x xs))
-    (each_passes test xs (λ y among. h y (Contains-rest x xs y among)))
+    (each-passes test xs (λ y among. h y (Contains-rest x xs y among)))
 
 -- and one that passes on none
-pub fails_each : {X : Type 0} (test : X → Bool) (xs : List X) → list_any test xs ≡ false → (x : X)
+pub fails-each : {X : Type 0} (test : X → Bool) (xs : List X) → list_any test xs ≡ false → (x : X)
     → Contains xs x → test x ≡ false
-fails_each test [] h x among = absurd (omega (arith, among.1))
-fails_each test (y ∷ xs) h x among =
+fails-each test [] h x among = absurd (omega (arith, among.1))
+fails-each test (y ∷ xs) h x among =
     let parts = or_parts (test y) (list_any test xs) h in
     elim (Contains-parts y xs x among) [
       | inl e ↦ subst (λ z. test z ≡ false) e parts.0
-      | inr rest ↦ fails_each test xs parts.1 x rest
+      | inr rest ↦ fails-each test xs parts.1 x rest
     ]
 
 -- the one that passes
-pub passes_some : {X : Type 0} (test : X → Bool) (xs : List X) → list_any test xs ≡ true → (x : X)
+pub passes-some : {X : Type 0} (test : X → Bool) (xs : List X) → list_any test xs ≡ true → (x : X)
     × Contains xs x × (test x ≡ true)
-passes_some test xs h =
+passes-some test xs h =
     let some : Any (λ x. test x ≡ true) xs = Any-from_list_any test xs h in
     (some.1, (some.0, some.2, some.3), some.4)
 
 -- where one element of a list passes a test, whether any does is computed to true
-pub some_passes : {X : Type 0} (test : X → Bool) (xs : List X) (x : X) → Contains xs x
+pub some-passes : {X : Type 0} (test : X → Bool) (xs : List X) (x : X) → Contains xs x
     → test x ≡ true → list_any test xs ≡ true
-some_passes test xs x among t = list_any-from_Any test xs (among.0, x, among.1, among.2, t)
+some-passes test xs x among t = list_any-from_Any test xs (among.0, x, among.1, among.2, t)
 
 other_one : (x e : EntryData) → field_of x ≡ field_of e
     → same_field (field_of x) (field_of e) ≡ false → ⊥
@@ -127,7 +127,7 @@ same_entry direction [] d e apart m n s = absurd (omega (arith, m.1))
 same_entry direction (x ∷ later) d e apart m n s =
     elim (cases_Bool (covers x.direction direction)) [
       | inl t ↦
-          let others = apart_kept direction x later apart t in
+          let others = apart-kept direction x later apart t in
           let first =
           Contains-parts x (kept direction later) d
           (subst (λ (es : List EntryData). Contains es d) (kept-used direction x later t) m) in
@@ -140,14 +140,14 @@ same_entry direction (x ∷ later) d e apart m n s =
                   | inl b ↦ sym a ∙ b
                   | inr b ↦ absurd
                       (other_one x e (ap field_of a ∙ s)
-                      (all_at (λ d. same_field (field_of x) (field_of d) ≡ false)
+                      (all-at (λ d. same_field (field_of x) (field_of d) ≡ false)
                       (kept direction later) others e b))
                 ]
             | inr a ↦
                 elim second [
                   | inl b ↦ absurd
                       (other_one x d (ap field_of b ∙ sym s)
-                      (all_at (λ d. same_field (field_of x) (field_of d) ≡ false)
+                      (all-at (λ d. same_field (field_of x) (field_of d) ≡ false)
                       (kept direction later) others d a))
                   | inr b ↦ same_entry direction later d e apart.1 a b s
                 ]
@@ -178,8 +178,8 @@ found_used direction h x later e at apart t among s rest =
       | inr a ↦
           let fails : same_field (field_of x) at ≡ false =
           subst (λ (b : FieldAt). same_field (field_of x) b ≡ false) s
-          (all_at (λ d. same_field (field_of x) (field_of d) ≡ false) (kept direction later)
-          (apart_kept direction x later apart t) e a)
+          (all-at (λ d. same_field (field_of x) (field_of d) ≡ false) (kept direction later)
+          (apart-kept direction x later apart t) e a)
           in
           rw fails (rest a)
     ]
@@ -206,10 +206,10 @@ value_along direction h (x ∷ later) e at apart among s =
 
 -- where no entry repeats another, the field of an entry that is used in the direction has the
 -- value that was made for that entry
-pub mapped_value : (rule : RuleData) (direction : Direction) (h : EntryData → List Bool)
+pub mapped-value : (rule : RuleData) (direction : Direction) (h : EntryData → List Bool)
     (e : EntryData) → AreApart rule.entries → Contains (covered rule direction) e
     → value_of (map (with_values h) (covered rule direction)) (field_of e) ≡ h e
-mapped_value rule direction h e apart among =
+mapped-value rule direction h e apart among =
     value_along direction h rule.entries e (field_of e) apart among refl
 
 -- a field that is there is found by its name
@@ -264,23 +264,23 @@ ip_listed UdpChecksum h k = absurd (true≢false k)
 ip_listed name h k = absurd (true≢false h)
 
 -- a name that isn't of CoAP is that of a field of IPv6 or UDP
-pub udp_listed : (name : FieldName) → same_layer (layer_of name) layer.Coap ≡ false
+pub udp-listed : (name : FieldName) → same_layer (layer_of name) layer.Coap ≡ false
     → list_any (same_name name) (ip_fields ++ udp_fields) ≡ true
-udp_listed IpVersion h = refl
-udp_listed IpTrafficClass h = refl
-udp_listed IpFlowLabel h = refl
-udp_listed IpPayloadLength h = refl
-udp_listed IpNextHeader h = refl
-udp_listed IpHopLimit h = refl
-udp_listed IpDevPrefix h = refl
-udp_listed IpDevIid h = refl
-udp_listed IpAppPrefix h = refl
-udp_listed IpAppIid h = refl
-udp_listed UdpDevPort h = refl
-udp_listed UdpAppPort h = refl
-udp_listed UdpLength h = refl
-udp_listed UdpChecksum h = refl
-udp_listed name h = absurd (true≢false h)
+udp-listed IpVersion h = refl
+udp-listed IpTrafficClass h = refl
+udp-listed IpFlowLabel h = refl
+udp-listed IpPayloadLength h = refl
+udp-listed IpNextHeader h = refl
+udp-listed IpHopLimit h = refl
+udp-listed IpDevPrefix h = refl
+udp-listed IpDevIid h = refl
+udp-listed IpAppPrefix h = refl
+udp-listed IpAppIid h = refl
+udp-listed UdpDevPort h = refl
+udp-listed UdpAppPort h = refl
+udp-listed UdpLength h = refl
+udp-listed UdpChecksum h = refl
+udp-listed name h = absurd (true≢false h)
 
 stack_listed : (coap udp : Bool) (name : FieldName)
     → IsWithoutCoap (if coap then stack.IpUdpCoap else (if udp then stack.IpUdp else stack.Ip))
@@ -290,23 +290,23 @@ stack_listed : (coap udp : Bool) (name : FieldName)
     (fields_of_stack
     (if coap then stack.IpUdpCoap else (if udp then stack.IpUdp else stack.Ip))) ≡ true
 stack_listed true udp name r h k = absurd r
-stack_listed false true name r h k = udp_listed name (h refl)
+stack_listed false true name r h k = udp-listed name (h refl)
 stack_listed false false name r h k = ip_listed name (h refl) (k refl)
 
 -- no field of a stack without CoAP is an option
-pub no_option : (name : FieldName) (of : Stack) → IsWithoutCoap of
+pub no-option : (name : FieldName) (of : Stack) → IsWithoutCoap of
     → list_any (same_name name) (fields_of_stack of) ≡ true → is_option name ≡ false
-no_option name stack.Ip r h =
-    let some = passes_some (same_name name) ip_fields h in
+no-option name stack.Ip r h =
+    let some = passes-some (same_name name) ip_fields h in
     subst (λ n. is_option n ≡ false) (sym (same_name-true name some.0 some.2))
     (not-true (is_option some.0)
-    (passes_each (λ n. not (is_option n)) ip_fields refl some.0 some.1))
-no_option name stack.IpUdp r h =
-    let some = passes_some (same_name name) (ip_fields ++ udp_fields) h in
+    (passes-each (λ n. not (is_option n)) ip_fields refl some.0 some.1))
+no-option name stack.IpUdp r h =
+    let some = passes-some (same_name name) (ip_fields ++ udp_fields) h in
     subst (λ n. is_option n ≡ false) (sym (same_name-true name some.0 some.2))
     (not-true (is_option some.0)
-    (passes_each (λ n. not (is_option n)) (ip_fields ++ udp_fields) refl some.0 some.1))
-no_option name stack.IpUdpCoap r h = absurd r
+    (passes-each (λ n. not (is_option n)) (ip_fields ++ udp_fields) refl some.0 some.1))
+no-option name stack.IpUdpCoap r h = absurd r
 
 position_one : (n : ℕ) → (n == 0) ≡ false → nat_lt 1 n ≡ false → (n == 1) ≡ false → ⊥
 position_one zero a b c = true≢false a
@@ -317,9 +317,9 @@ abbrev placed : FieldName → ℕ → FieldAt
 placed name position = record { name = name; position = position }
 
 -- an entry whose shape isn't wrong, and which isn't of an option, is of a field at position 1
-pub first_position : (e : EntryData) → shape_wrong e ≡ false → is_option e.name ≡ false
+pub first-position : (e : EntryData) → shape_wrong e ≡ false → is_option e.name ≡ false
     → field_of e ≡ at_name e.name
-first_position e h o =
+first-position e h o =
     let parts =
     or_parts (not (is_length_of e.name e.length) || (e.position == 0))
     (nat_lt 1 e.position && not (is_option e.name)) h in
@@ -358,14 +358,14 @@ entry_named rule direction e admitted r among =
     (unfilter (λ d. covers d.direction direction) rule.entries e among).0 in
     let listed : list_any (same_name e.name) (fields_of_stack (stack_of rule)) ≡ true =
     stack_listed (has_layer rule layer.Coap) (has_layer rule layer.Udp) e.name r
-    (λ none. fails_each (λ d. same_layer (layer_of d.name) layer.Coap) rule.entries none e own)
-    (λ none. fails_each (λ d. same_layer (layer_of d.name) layer.Udp) rule.entries none e own)
+    (λ none. fails-each (λ d. same_layer (layer_of d.name) layer.Coap) rule.entries none e own)
+    (λ none. fails-each (λ d. same_layer (layer_of d.name) layer.Udp) rule.entries none e own)
     in
-    let some = passes_some (same_name e.name) (fields_of_stack (stack_of rule)) listed in
+    let some = passes-some (same_name e.name) (fields_of_stack (stack_of rule)) listed in
     let holds : EntryHolds (stack_of rule) e = EntryHolds-from_IsAdmitted rule admitted e own in (
       subst (Contains (fields_of_stack (stack_of rule))) (sym (same_name-true e.name some.0 some.2))
           some.1,
-      first_position e holds.shape (no_option e.name (stack_of rule) r listed),
+      first-position e holds.shape (no-option e.name (stack_of rule) r listed),
     )
 
 name_entered : (rule : RuleData) (direction : Direction) (name : FieldName) → IsAdmitted rule
@@ -374,8 +374,8 @@ name_entered : (rule : RuleData) (direction : Direction) (name : FieldName) → 
     × Contains (covered rule direction) e × (field_of e ≡ at_name name)
 name_entered rule direction name admitted r s among =
     let some =
-    passes_some (λ e. same_name e.name name) (covered rule direction)
-    (passes_each (has_field rule direction) (fields_of_stack (stack_of rule)) s name among) in (
+    passes-some (λ e. same_name e.name name) (covered rule direction)
+    (passes-each (has_field rule direction) (fields_of_stack (stack_of rule)) s name among) in (
       some.0,
       some.1,
       (entry_named rule direction some.0 admitted r some.1).1

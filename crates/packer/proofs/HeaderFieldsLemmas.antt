@@ -45,20 +45,20 @@ names-apart stack.IpUdp Down h = refl
 names-apart stack.IpUdpCoap direction h = absurd h
 
 -- fields of other names are others
-pub other_at : (direction : Direction) (packet : List ℕ) (name other : FieldName)
+pub other-at : (direction : Direction) (packet : List ℕ) (name other : FieldName)
     → not (same_name name other) ≡ true
     → (field_in direction packet name).at ≢ (field_in direction packet other).at
-other_at direction packet name other h e =
+other-at direction packet name other h e =
     let same : name ≡ other = ap (λ (at : FieldAt). at.name) e in
     let itself : same_name name other ≡ true =
     subst (λ n. same_name name n ≡ true) same (same_name-itself name) in
     absurd (cc)
 
 -- of names of which none stands twice, no two of the packet's fields have one name and position
-pub once_along : (direction : Direction) (packet : List ℕ) (names : List FieldName)
+pub once-along : (direction : Direction) (packet : List ℕ) (names : List FieldName)
     → are_apart names ≡ true → AllPairs (λ f g. f.at ≢ g.at) (map (field_in direction packet) names)
-once_along direction packet [] h = λ i j d l k. absurd (omega arith)
-once_along direction packet (name ∷ names) h =
+once-along direction packet [] h = λ i j d l k. absurd (omega arith)
+once-along direction packet (name ∷ names) h =
     let parts : (list_all (λ other. not (same_name name other)) names ≡ true)
     × (are_apart names ≡ true) =
     and_parts (list_all (λ other. not (same_name name other)) names) (are_apart names) h in
@@ -67,26 +67,26 @@ once_along direction packet (name ∷ names) h =
     (All-map (λ g. (field_in direction packet name).at ≢ g.at) (field_in direction packet) names
     (All-weaker (λ other. not (same_name name other) ≡ true)
     (λ other. (field_in direction packet name).at ≢ (field_in direction packet other).at)
-    (other_at direction packet name) names
+    (other-at direction packet name) names
     (AllPass-from_list_all (λ other. not (same_name name other)) names parts.0)))
-    (once_along direction packet names parts.1)
+    (once-along direction packet names parts.1)
 
 -- a field of the width that its name has
-pub width_from : (o : Option ℕ) (value : List Bool) → length value ≡ unwrap_or o 0
+pub width-from : (o : Option ℕ) (value : List Bool) → length value ≡ unwrap_or o 0
     → IfSome o (λ width. length value ≡ width)
-width_from None value e = tt
-width_from (Some width) value e = e
+width-from None value e = tt
+width-from (Some width) value e = e
 
 -- where the packet has for each name as many bits as its width, these fields have their widths
-pub widths_along : (direction : Direction) (packet : List ℕ) (names : List FieldName)
+pub widths-along : (direction : Direction) (packet : List ℕ) (names : List FieldName)
     → AllByRecursion (λ n. length (field_bits direction packet n) ≡ bits_of n) names
     → All (λ f. WidthHolds f.at.name f.value) (map (field_in direction packet) names)
-widths_along direction packet [] h = All-nil _
-widths_along direction packet (name ∷ names) h =
+widths-along direction packet [] h = All-nil _
+widths-along direction packet (name ∷ names) h =
     All-cons (λ f. WidthHolds f.at.name f.value) (field_in direction packet name)
     (map (field_in direction packet) names)
-    (width_from (width_of name) (field_bits direction packet name) h.0)
-    (widths_along direction packet names h.1)
+    (width-from (width_of name) (field_bits direction packet name) h.0)
+    (widths-along direction packet names h.1)
 
 -- a field that isn't of CoAP
 abbrev pub is_below_coap : FieldName → Bool
@@ -119,9 +119,9 @@ fields-below of direction packet h =
     (names-below of direction h))
 
 -- the length is one of the field's
-pub kind_of : (rule : RuleData) → IsAdmitted rule → (e : EntryData) → Contains rule.entries e
+pub kind-of : (rule : RuleData) → IsAdmitted rule → (e : EntryData) → Contains rule.entries e
     → is_length_of e.name e.length ≡ true
-kind_of rule admitted e among =
+kind-of rule admitted e among =
     let first : ((not (is_length_of e.name e.length) || (e.position == 0)) ≡ false)
     × ((nat_lt 1 e.position && not (is_option e.name)) ≡ false) =
     or_parts (not (is_length_of e.name e.length) || (e.position == 0))
@@ -131,9 +131,9 @@ kind_of rule admitted e among =
     (or_parts (not (is_length_of e.name e.length)) (e.position == 0) first.0).0
 
 -- an entry that is used in the direction is one of the rule's entries
-pub of_rule : (rule : RuleData) (direction : Direction) (e : EntryData)
+pub of-rule : (rule : RuleData) (direction : Direction) (e : EntryData)
     → Contains (covered rule direction) e → Contains rule.entries e
-of_rule rule direction e h =
+of-rule rule direction e h =
     All-contains (Contains rule.entries) (covered rule direction) e
     (All-filter (λ e. covers e.direction direction) (Contains rule.entries) rule.entries
     (All-contains_itself rule.entries)) h

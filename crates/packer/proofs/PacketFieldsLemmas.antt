@@ -22,12 +22,12 @@ use Rattle.rule_model.specs.Matches.{Matches}
 use Rattle.ip_udp_fields.specs.Layout.{IsWithoutCoap, fields_in_packet_order}
 use Rattle.ip_udp_fields.specs.Fields.{field_in, fields_in, FieldsOf}
 use Rattle.ip_udp_fields.proofs.OrderLemmas.{are_distinct}
-use Rattle.ip_udp_fields.proofs.SplitLemmas.{without_coap}
+use Rattle.ip_udp_fields.proofs.SplitLemmas.{without-coap}
 use Rattle.packer.specs.Packets.{PacketOf}
 use Rattle.packer.specs.Unpacking.{reads}
 use Rattle.packer.proofs.PacketOrderLemmas.{to-order, from-order}
-use Rattle.packer.proofs.CoverLemmas.{Contains-parts, Contains-map, each_passes, fails_each}
-use Rattle.packer.proofs.CoverLemmas.{some_passes}
+use Rattle.packer.proofs.CoverLemmas.{Contains-parts, Contains-map, each-passes, fails-each}
+use Rattle.packer.proofs.CoverLemmas.{some-passes}
 
 -- a packet of a stack without CoAP
 pub PacketOf-fields : (of : Stack) (direction : Direction) (packet : List ℕ)
@@ -85,7 +85,7 @@ once_named direction packet (name ∷ names) h =
     ap (λ (at : FieldAt). at.name) (same ∙ ap (λ (f : FieldValue). f.at) (sym m.2)) in
     true≢false
     (sym (subst (λ n. same_name name n ≡ true) equal (same_name-itself name))
-    ∙ fails_each (same_name name) names (not-true (list_any (same_name name) names) parts.0) m.0
+    ∙ fails-each (same_name name) names (not-true (list_any (same_name name) names) parts.0) m.0
     m.1))
     (once_named direction packet names parts.1)
 
@@ -97,7 +97,7 @@ unfolding fields_in
 named-field of direction packet fields from f p among =
     let m = Contains-unmap (field_in direction packet) (fields_in_packet_order of direction) f
     (subst (λ (all : List FieldValue). Contains all f) p.its_fields among) in
-    (m.0, from-order of direction m.0 (without_coap of packet p.is_packet) m.1, m.2)
+    (m.0, from-order of direction m.0 (without-coap of packet p.is_packet) m.1, m.2)
 
 -- a packet of a stack without CoAP has among its fields its own for each name of the stack
 pub field-named : (of : Stack) (direction : Direction) (packet : List ℕ) (fields : List FieldValue)
@@ -108,7 +108,7 @@ field-named of direction packet fields from name p among =
     subst (λ (all : List FieldValue). Contains all (field_in direction packet name))
     (sym p.its_fields)
     (Contains-map (field_in direction packet) (fields_in_packet_order of direction) name
-    (to-order of direction name (without_coap of packet p.is_packet) among))
+    (to-order of direction name (without-coap of packet p.is_packet) among))
 
 -- no name stands twice
 pub once-fields : (of : Stack) (direction : Direction) (packet : List ℕ) (fields : List FieldValue)
@@ -117,7 +117,7 @@ unfolding fields_in
 once-fields of direction packet fields from p =
     subst (AllPairs (λ f g. f.at ≢ g.at)) (sym p.its_fields)
     (once_named direction packet (fields_in_packet_order of direction)
-    (distinct of direction (without_coap of packet p.is_packet)))
+    (distinct of direction (without-coap of packet p.is_packet)))
 
 -- a rule that matches a packet reads packets of its direction
 pub reads-matching : (rule : RuleData) (iids : Iids) (direction : Direction) (packet : List ℕ)
@@ -125,10 +125,10 @@ pub reads-matching : (rule : RuleData) (iids : Iids) (direction : Direction) (pa
     → FieldsOf (stack_of rule) direction packet fields from
     → Matches rule iids direction fields computed → reads rule direction ≡ true
 reads-matching rule iids direction packet fields from computed p matches =
-    each_passes (has_field rule direction) (fields_of_stack (stack_of rule))
+    each-passes (has_field rule direction) (fields_of_stack (stack_of rule))
     (λ name among.
     let e = matches.same_set.each_field (field_in direction packet name)
     (field-named (stack_of rule) direction packet fields from name p among) in
-    some_passes (λ d. same_name d.name name) (covered rule direction) e.0 e.1
+    some-passes (λ d. same_name d.name name) (covered rule direction) e.0 e.1
     (subst (λ n. same_name n name ≡ true) (sym (ap (λ (at : FieldAt). at.name) e.2))
     (same_name-itself name)))

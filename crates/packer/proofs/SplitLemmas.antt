@@ -12,9 +12,9 @@ use Rattle.rule_model.specs.declared.parts.SplitFault.{SplitFault}
 use Rattle.ip_udp_fields.specs.Layout.{IsWithoutCoap, header_size}
 use Rattle.ip_udp_fields.specs.Fields.{FieldsOf, fields_in}
 use Rattle.ip_udp_fields.specs.Refusals.{refusal}
-use Rattle.ip_udp_fields.proofs.SplitLemmas.{refuses_exactly}
+use Rattle.ip_udp_fields.proofs.SplitLemmas.{refuses-exactly}
 use Rattle.coap_fields.specs.Reading.{message_in}
-use Rattle.coap_fields.proofs.OptionLemmas.{drop_bytes}
+use Rattle.coap_fields.proofs.OptionLemmas.{drop-bytes}
 use Rattle.coap_fields.proofs.SplitLemmas.{message_in-takes, message_in-again}
 use Rattle.packer.specs.Packets.{IsCoapPacket, PacketOf, split_headers, with_message, split_message}
 use Rattle.packer.specs.Packets.{split_of}
@@ -34,7 +34,7 @@ headers_some of direction packet s None h r e =
     } ≡ s = cc in
     subst (λ s. FieldsOf of direction packet s.fields s.payload_from) same
     (record {
-      is_packet = (refuses_exactly of packet h).0 r;
+      is_packet = (refuses-exactly of packet h).0 r;
       its_fields = refl;
       its_payload =
           refl;
@@ -53,7 +53,7 @@ pub fields-split_headers : (of : Stack) (direction : Direction) (packet : List �
     → FieldsOf of direction packet fields from
     → split_headers of direction packet ≡ Some (record { fields = fields; payload_from = from })
 fields-split_headers of direction packet fields from h p =
-    let none : refusal of packet ≡ None = (refuses_exactly of packet h).1 p.is_packet in
+    let none : refusal of packet ≡ None = (refuses-exactly of packet h).1 p.is_packet in
     rw (none, p.its_fields, p.its_payload) refl
 
 -- a UDP packet and its message
@@ -74,7 +74,7 @@ coap_some direction packet s headers (Ok message) bytes p r e =
       message_fields = message.fields;
       message_from = message.payload_from;
       is_udp = p.is_packet;
-      its_message = message_in-takes (drop 48 packet) message (drop_bytes 48 packet bytes) r;
+      its_message = message_in-takes (drop 48 packet) message (drop-bytes 48 packet bytes) r;
       its_fields = ap (λ (fields : List FieldValue). fields ++ message.fields) p.its_fields;
       its_payload = ap (λ from. from + message.payload_from) p.its_payload;
     })

@@ -40,7 +40,7 @@ use Rattle.packer.specs.Packing.{SchcPacketData, schc_packet_under, matching_sch
 use Rattle.packer.specs.Packing.{schc_packet_by, candidate_of, candidate_by, candidate_under}
 use Rattle.packer.specs.Searching.{IsComputedFor, CanBeTried}
 use Rattle.packer.proofs.writing.BoundLemmas.{IsShort, residue-short}
-use Rattle.packer.proofs.CoverLemmas.{some_passes}
+use Rattle.packer.proofs.CoverLemmas.{some-passes}
 use Rattle.packer.proofs.HeadersLemmas.{size_after-below, from-within}
 use Rattle.packer.proofs.SplitLemmas.{split_of-packet}
 use Rattle.packer.proofs.reading.UnpackedLemmas.{found-listed}
@@ -78,7 +78,7 @@ entries_same rule iids direction a b f p u c =
     (same_field (field_of e) f.at) || (length_holds e.name e.length f.value && operator_holds
     e.operator e.targets f.value && r))
     (restored_same iids a b e.name e.action f.value p u
-    (λ t. c (some_passes (λ d. same_name d.name UdpChecksum && is_compute d.action)
+    (λ t. c (some-passes (λ d. same_name d.name UdpChecksum && is_compute d.action)
     (covered rule direction) e among t))))
 
 -- the rule matches with what is computed for it where it matches with all that is computed

@@ -34,8 +34,8 @@ steps_above (suc n) high low =
     ∙ ap (λ m. bit_steps n m) (step_above (high * 2 ^ n) low)
     ∙ steps_above n high (bit_step low)
 
-pub eight_steps : (word : ℕ) → bit_steps 8 word ≡ bit_xor (word / 256) (bit_steps 8 (word % 256))
-eight_steps word =
+pub eight-steps : (word : ℕ) → bit_steps 8 word ≡ bit_xor (word / 256) (bit_steps 8 (word % 256))
+eight-steps word =
     let parts : bit_xor (word / 256 * 2 ^ 8) (word % 256) ≡ word =
     xor_shifted (word / 256) 8 (word % 256) (omega arith) ∙ omega arith in
     ap (λ n. bit_steps 8 n) (sym parts) ∙ steps_above 8 (word / 256) (word % 256)
@@ -86,4 +86,4 @@ pub table-step : (word byte mixed : ℕ) → mixed ≡ bit_xor word byte
 unfolding byte_step
 table-step word byte mixed e =
     ap (λ n. bit_xor (mixed / 256) n) (table-at (mixed % 256) 0 (omega arith))
-    ∙ sym (eight_steps mixed) ∙ ap (λ n. bit_steps 8 n) e
+    ∙ sym (eight-steps mixed) ∙ ap (λ n. bit_steps 8 n) e

@@ -24,9 +24,9 @@ use Rattle.rule_model.specs.Findings.{IsAdmitted}
 use Rattle.rule_model.specs.Residue.{same_field}
 
 -- where no element passes, each fails
-pub position_none : {X : Type 0} → (p : X → Bool) (xs : List X) → position p xs ≡ None
+pub position-none : {X : Type 0} → (p : X → Bool) (xs : List X) → position p xs ≡ None
     → (k : ℕ) (d : X) → k < length xs → p (get_or xs k d) ≡ false
-position_none p xs e k d h =
+position-none p xs e k d h =
     elim (cases_lt (position_or_len p xs) (length xs)) [
       | inl l ↦ let found : position p xs ≡ Some (position_or_len p xs) =
           rw (lt-ltb (position_or_len p xs) (length xs) l) in absurd (cc)
@@ -46,7 +46,7 @@ none-passes test entries e k d h =
     let n : length (enumerate_from 0 entries) ≡ length entries = length-enumerate_from 0 entries in
     let fails : test (get_or (enumerate_from 0 entries) k (0, d)).0
     (get_or (enumerate_from 0 entries) k (0, d)).1 ≡ false =
-    position_none (λ p. test p.0 p.1) (enumerate_from 0 entries)
+    position-none (λ p. test p.0 p.1) (enumerate_from 0 entries)
     (mapped_none (λ before. before + 1) _ e) k (0, d) (omega arith)
     in
     let at : get_or (enumerate_from 0 entries) k (0, d) ≡ (0 + k, get_or entries k d) =
@@ -148,10 +148,10 @@ share a b way.Down h k =
     (and_from (covers a way.Down) (covers b way.Down) h k)
 
 -- an entry that doesn't repeat one is of another field, where both are used in one direction
-pub other_field : (d e : EntryData) (direction : Direction) → repeats d e ≡ false
+pub other-field : (d e : EntryData) (direction : Direction) → repeats d e ≡ false
     → covers d.direction direction ≡ true → covers e.direction direction ≡ true
     → same_field (field_of d) (field_of e) ≡ false
-other_field d e direction h k l =
+other-field d e direction h k l =
     elim (and_cases (same_field (field_of d) (field_of e)) (share_direction d.direction e.direction)
     h) [
       | inl other ↦ other
@@ -170,11 +170,11 @@ list_any_none : {X : Type 0} → (p : X → Bool) (xs : List X) → list_any p x
 list_any_none p xs h x among = found_none p xs h x among.0 among.1 among.2
 
 -- behind a token's entry, and at it, no entry that is used with it is of the token length
-pub no_later_length : (e : EntryData) (entries : List EntryData) (direction : Direction)
+pub no-later-length : (e : EntryData) (entries : List EntryData) (direction : Direction)
     → order_wrong e entries ≡ false → e.name ≡ CoapToken → covers e.direction direction ≡ true
     → (d : EntryData) → Contains entries d → covers d.direction direction ≡ true
     → same_name d.name CoapTkl ≡ false
-no_later_length e entries direction h token k d among l =
+no-later-length e entries direction h token k d among l =
     let test : EntryData → Bool =
     λ f. same_name f.name CoapTkl && share_direction e.direction f.direction in
     let none : list_any test entries ≡ false =

@@ -475,9 +475,9 @@ top-across words from count across most h fits =
     ∙ ap (λ bits. take count bits) (sym source)
 
 -- the highest `count` bits of a word, as a number
-pub top_value : (word count : ℕ) → count ≤ 64 → word < 2 ^ 64
+pub top-value : (word count : ℕ) → count ≤ 64 → word < 2 ^ 64
     → word / 2 ^ (64 - count) ≡ bits_value (take count (number_bits 64 word))
-top_value word count most fits =
+top-value word count most fits =
     let sum : count + (64 - count) ≡ 64 = omega arith in
     let top : take count (number_bits 64 word) ≡ number_bits count (word / 2 ^ (64 - count)) =
     subst (λ n. take count (number_bits n word) ≡ number_bits count (word / 2 ^ (64 - count))) sum

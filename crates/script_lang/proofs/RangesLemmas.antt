@@ -78,10 +78,10 @@ either false false = refl
 
 -- when a number goes into the set and a device with it behind the others, the set still has the
 -- devices' numbers
-pub numbers_one : {S : Type 0} (old new : HashSet ℕ S) (devices : List DeviceLine)
+pub numbers-one : {S : Type 0} (old new : HashSet ℕ S) (devices : List DeviceLine)
     (line : DeviceLine) → Updates nat_eq old new line.number true → AreNumbersOf old devices
     → AreNumbersOf new (devices ++ line ∷ [])
-numbers_one old new devices line updates numbers n =
+numbers-one old new devices line updates numbers n =
     updates.0 n
     ∙ either (line.number == n) (contains nat_eq old n)
     ∙ ap (λ b. b || (line.number == n)) (numbers n)
@@ -109,10 +109,10 @@ all-declared-later devices line events h =
     (λ e. declared-later devices line e.device e.event) h
 
 -- a script stays in its ranges when a device with a number of its own is declared
-pub declared_one : (devices : List DeviceLine) (events : List ScriptEventData) (line : DeviceLine)
+pub declared-one : (devices : List DeviceLine) (events : List ScriptEventData) (line : DeviceLine)
     → is_declared devices line.number ≡ false → IsParams line.params → length devices < max_devices
     → InRange devices events → InRange (devices ++ line ∷ []) events
-declared_one devices events line new params few r = (
+declared-one devices events line new params few r = (
   all-append (λ device. IsParams device.params) devices (line ∷ []) r.0 (params, tt),
   own-more devices line r.1 new,
   omega (arith, length-append devices (line ∷ [])),

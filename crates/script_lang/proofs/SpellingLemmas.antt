@@ -34,7 +34,7 @@ use Rattle.script_lang.specs.Devices.{device_in}
 use Rattle.script_lang.specs.Spelling.{spelled, role_word, target_word, direction_word, IsDevice}
 use Rattle.script_lang.specs.Spelling.{ReadsBack}
 use Rattle.script_lang.specs.declared.lines.Told.TheVariants.{Happens}
-use Rattle.script_lang.proofs.TextLemmas.{digits_model, list_all-all_ascii_digits, and-right}
+use Rattle.script_lang.proofs.TextLemmas.{digits-model, list_all-all_ascii_digits, and-right}
 
 -- ---- words without a space
 
@@ -120,15 +120,15 @@ leads (suc n) small z = absurd (omega (arith, first_decimal (suc n) (omega arith
 pub number-again : (limit n : ℕ) → n < limit → n < 2 ^ 64 → number_of limit (decimal n) ≡ Some n
 unfolding number_of
 number-again limit n below small =
-    let digits = digits_decimal digits_model n small in
+    let digits = digits_decimal digits-model n small in
     let numeral = numeral-word (decimal n) digits (decimal_nonempty n small) (leads n small) in
-    let value = digits_value-decimal digits_model n small in
+    let value = digits_value-decimal digits-model n small in
     let within : nat_lt n limit ≡ true = grind (arith, nat_tests) in
     rw (numeral, value, within) refl
 
 -- a number below 2 ^ 64 in decimal has no space
 pub decimal-without : (n : ℕ) → n < 2 ^ 64 → HasNoSpace (decimal n)
-decimal-without n small = digits-without (decimal n) (digits_decimal digits_model n small)
+decimal-without n small = digits-without (decimal n) (digits_decimal digits-model n small)
 
 some-again : (packet : List ℕ) → packet ≢ [] → some_bytes packet ≡ Some packet
 some-again [] none = absurd (none refl)

@@ -18,8 +18,8 @@ use Rattle.std.proofs.lemmas.Bool.Decides.{nat_tests}
 use Rattle.script_lang.specs.Text.{is_line_feed, without_empty_end, lines_of, is_numeral, number_of}
 
 -- ASCII digits with their decimal value are numerals as lemmas on parsing and printing take them
-pub digits_model : IsNumeralModel (λ ds. all_ascii_digits ds ≡ true) (digits_value 10)
-digits_model = numerals_by_value _ tells_all_ascii_digits
+pub digits-model : IsNumeralModel (λ ds. all_ascii_digits ds ≡ true) (digits_value 10)
+digits-model = numerals_by_value _ tells_all_ascii_digits
 
 -- the test of each byte for a digit is the test that the text is all digits
 pub list_all-all_ascii_digits : (ds : List ℕ) → list_all is_ascii_digit ds ≡ all_ascii_digits ds
@@ -46,7 +46,7 @@ numeral_digits (d ∷ e ∷ ds) h =
 pub IsUtf8-numeral : (word : List ℕ) → is_numeral word ≡ true → IsUtf8 word
 IsUtf8-numeral word h =
     IsUtf8-from_ascii word
-    (IsAscii-from_digits word (digits_model.to word (numeral_digits word h).0))
+    (IsAscii-from_digits word (digits-model.to word (numeral_digits word h).0))
 
 number_is : (word : List ℕ) (b : Bool) → is_numeral word ≡ true
     → nat_lt (digits_value 10 word) (2 ^ 64) ≡ b
@@ -69,7 +69,7 @@ pub parse-number_of : {E : Type 0} (word : List ℕ) (r : Result ℕ E) → is_n
     → ParsesUnsigned 64 10 word r → result_ok r ≡ number_of (2 ^ 64) word
 parse-number_of word r h p =
     let digits = numeral_digits word h in
-    parsed word r h (parse_digits digits_model 64 word r p digits.0) digits.1
+    parsed word r h (parse_digits digits-model 64 word r p digits.0) digits.1
 
 found : (b : Bool) (n end : ℕ) → cond b (Some n) None ≡ Some end → (b ≡ true) × (n ≡ end)
 found true n end h = (refl, cc)

@@ -21,9 +21,9 @@ use Rattle.sessions.specs.declared.moves.Running.{Running}
 use Rattle.sessions.specs.declared.out.SessionOut.{SessionOut}
 use Rattle.sessions.specs.declared.receivers.Receiver.{Receiver}
 use Rattle.sessions.specs.declared.senders.Sender.{Sender}
-use Rattle.sessions.proofs.KeyLemmas.{found_own, put_own}
-use Rattle.sessions.proofs.SenderLemmas.{begun_params, begun_mtu, begun_bits, begun_phase}
-use Rattle.sessions.proofs.SenderLemmas.{begun_due}
+use Rattle.sessions.proofs.KeyLemmas.{found_own, put-own}
+use Rattle.sessions.proofs.SenderLemmas.{begun-params, begun-mtu, begun-bits, begun-phase}
+use Rattle.sessions.proofs.SenderLemmas.{begun-due}
 
 -- none runs
 none-in : (o : Option Session) → may_begin_in o ≡ true → o ≡ None
@@ -37,12 +37,12 @@ none-runs None left e = refl
 none-runs (Some running) left e = absurd cc
 
 -- an end that may begin a session has none, not even one that is quiet
-pub begin_none : (role : Role) (params : EndParams) (running : Option Running)
+pub begin-none : (role : Role) (params : EndParams) (running : Option Running)
     (answering silent : Receiver) (next : ℕ) (clocks : ClocksData) (s : SessionsData)
     → seen role params running answering silent next clocks ≡ s → may_begin s ≡ true
     → running ≡ None
 unfolding may_begin
-begin_none role params running answering silent next clocks s v m =
+begin-none role params running answering silent next clocks s v m =
     let was =
     subst (λ s. may_begin_in (found (out_key s.role s.params.acked) s.senders) ≡ true) (sym v) m
     in
@@ -52,9 +52,9 @@ begin_none role params running answering silent next clocks s v m =
     (found_own (out_key role params.acked) (session_of running clocks.sending))) ∙ was))
 
 -- an end that has no session has no timer armed for one
-pub none_left : (role : Role) (params : EndParams) (running : Option Running) (left : Option ℕ)
+pub none-left : (role : Role) (params : EndParams) (running : Option Running) (left : Option ℕ)
     → running ≡ None → AreRunning role params running left → left ≡ None
-none_left role params running left r h = subst (λ o. AreRunning role params o left) r h
+none-left role params running left r h = subst (λ o. AreRunning role params o left) r h
 
 -- the sender that begins
 pub record IsBegun (role : Role) (params : EndParams) (way : ℕ × FragParams) (bits : List Bool)
@@ -63,28 +63,28 @@ pub record IsBegun (role : Role) (params : EndParams) (way : ℕ × FragParams) 
   pub begun : sender ≡ sender_begun way.1.mode way.1 params.mtu params.last bits
 
 -- the sender of a session that begins has the MTU of the end's parameters
-pub begun_mtu_is : (role : Role) (params : EndParams) (way : ℕ × FragParams) (bits : List Bool)
+pub begun-mtu-is : (role : Role) (params : EndParams) (way : ℕ × FragParams) (bits : List Bool)
     (sender : Sender) → IsBegun role params way bits sender → sender_mtu sender ≡ params.mtu
-begun_mtu_is role params way bits sender h = ap sender_mtu h.begun
-    ∙ begun_mtu way.1.mode way.1 params.mtu params.last bits
+begun-mtu-is role params way bits sender h = ap sender_mtu h.begun
+    ∙ begun-mtu way.1.mode way.1 params.mtu params.last bits
 
 -- the sender of a session that begins has the bits with which it begins
-pub begun_bits_is : (role : Role) (params : EndParams) (way : ℕ × FragParams) (bits : List Bool)
+pub begun-bits-is : (role : Role) (params : EndParams) (way : ℕ × FragParams) (bits : List Bool)
     (sender : Sender) → IsBegun role params way bits sender → sender_bits sender ≡ bits
-begun_bits_is role params way bits sender h = ap sender_bits h.begun
-    ∙ begun_bits way.1.mode way.1 params.mtu params.last bits
+begun-bits-is role params way bits sender h = ap sender_bits h.begun
+    ∙ begun-bits way.1.mode way.1 params.mtu params.last bits
 
 -- a session that begins, with no timer armed, is one of this end, whatever its number
-pub begun_runs : (role : Role) (params : EndParams) (way : ℕ × FragParams) (bits : List Bool)
+pub begun-runs : (role : Role) (params : EndParams) (way : ℕ × FragParams) (bits : List Bool)
     (number : ℕ) (sender : Sender) (left : Option ℕ) → IsBegun role params way bits sender
     → left ≡ None → IsRunning role params (record { number = number; sender = sender }) left
-begun_runs role params way bits number sender left h l = record {
-  row = ap sender_params h.begun ∙ begun_params way.1.mode way.1 params.mtu params.last bits
+begun-runs role params way bits number sender left h l = record {
+  row = ap sender_params h.begun ∙ begun-params way.1.mode way.1 params.mtu params.last bits
       ∙ ap (λ way. way.1) h.way_is;
-  mtu = begun_mtu_is role params way bits sender h;
+  mtu = begun-mtu-is role params way bits sender h;
   timed = ap is_armed l
       ∙ sym (ap (λ s. sender_timed (sender_phase s)) h.begun
-      ∙ ap sender_timed (begun_phase way.1.mode way.1 params.mtu params.last bits));
+      ∙ ap sender_timed (begun-phase way.1.mode way.1 params.mtu params.last bits));
 }
 
 -- its first message is due
@@ -93,11 +93,11 @@ map-none f None e = refl
 map-none f (Some x) e = absurd cc
 
 -- a session that begins has its first message due, so that something is given
-pub has_message : (role : Role) (params : EndParams) (way : ℕ × FragParams) (bits : List Bool)
+pub has-message : (role : Role) (params : EndParams) (way : ℕ × FragParams) (bits : List Bool)
     (sender : Sender) (f : List ℕ → SessionOut) (out : Option SessionOut)
     → IsBegun role params way bits sender → out ≡ option_map f (sender_due sender) → out ≡ None → ⊥
-has_message role params way bits sender f out h o n =
-    begun_due way.1.mode way.1 params.mtu params.last bits
+has-message role params way bits sender f out h o n =
+    begun-due way.1.mode way.1 params.mtu params.last bits
     (sym (ap sender_due h.begun) ∙ map-none f (sender_due sender) (sym o ∙ n))
 
 -- the step
@@ -124,11 +124,11 @@ sends-some s key session k (Some bytes) out e =
 put-none : (key : SessionKey) (running : Option Running) (left : Option ℕ) (new : Session)
     → running ≡ None
     → put_in key (Some new) (entry key (session_of running left)) ≡ entry key (Some new)
-put-none key running left new r = rw r (put_own key None (Some new))
+put-none key running left new r = rw r (put-own key None (Some new))
 
 -- where no session runs, the one that begins has the number that is next, its first message is
 -- given, and the end keeps it as after that: receivers and their timers stay, the number goes up
-pub begin_is : (role : Role) (params : EndParams) (running : Option Running)
+pub begin-is : (role : Role) (params : EndParams) (running : Option Running)
     (answering silent : Receiver) (next next' : ℕ) (clocks clocks' : ClocksData)
     (way : ℕ × FragParams) (bits : List Bool) (sender : Sender) (new : Running) (out : SessionOut)
     → running ≡ None → clocks.sending ≡ None → IsBegun role params way bits sender
@@ -146,7 +146,7 @@ pub begin_is : (role : Role) (params : EndParams) (running : Option Running)
       Some out,
     )
 unfolding begin_step
-begin_is role params running answering silent next next' clocks clocks' way bits sender new out r l
+begin-is role params running answering silent next next' clocks clocks' way bits sender new out r l
     h o a c n =
     let s : SessionsData = seen role params running answering silent (next_number next) clocks in
     let key = out_key role params.acked in
@@ -166,11 +166,11 @@ begin_is role params running answering silent next next' clocks clocks' way bits
     ∙ ap (λ y. (seen role params (Some new) answering silent y clocks', Some out)) (sym n)
 
 -- sessions of which the same is seen have senders of the same bits
-pub keeps_bits : (old new : Running) (left left' : Option ℕ) → shown new left' ≡ shown old left
+pub keeps-bits : (old new : Running) (left left' : Option ℕ) → shown new left' ≡ shown old left
     → sender_bits new.sender ≡ sender_bits old.sender
-keeps_bits old new left left' e = ap (λ x. sender_bits x.sender) e
+keeps-bits old new left left' e = ap (λ x. sender_bits x.sender) e
 
 -- what is one more, but at most 2 ^ 64 - 1, is the number of the session after
-pub number_is : (number next : ℕ) → next ≡ min (number + 1) (2 ^ 64 - 1) → next ≡ next_number number
+pub number-is : (number next : ℕ) → next ≡ min (number + 1) (2 ^ 64 - 1) → next ≡ next_number number
 unfolding next_number
-number_is number next e = e
+number-is number next e = e

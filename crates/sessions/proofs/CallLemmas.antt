@@ -51,13 +51,13 @@ use Rattle.sessions.specs.Steps.{aborted_from, abort_step, may_begin, may_begin_
 use Rattle.sessions.specs.declared.moves.Running.{Running}
 use Rattle.sessions.specs.declared.out.SessionOut.{SessionOut}
 use Rattle.sessions.specs.declared.receivers.Receiver.{Receiver}
-use Rattle.sessions.proofs.KeyLemmas.{found_own, put_own, found_other}
-use Rattle.sessions.proofs.PortLemmas.{found_in, put_answering, put_silent}
+use Rattle.sessions.proofs.KeyLemmas.{found_own, put-own, found-other}
+use Rattle.sessions.proofs.PortLemmas.{found-in, put-answering, put-silent}
 
 -- The session is given up.
 
 -- an end that has no session is as before when it is told to abort, and reports nothing
-pub abort_none : (role : Role) (params : EndParams) (running : Option Running)
+pub abort-none : (role : Role) (params : EndParams) (running : Option Running)
     (answering silent : Receiver) (next : ℕ) (clocks : ClocksData) → running ≡ None
     → abort_step
     (seen role params running answering silent next clocks) ≡ (
@@ -66,7 +66,7 @@ pub abort_none : (role : Role) (params : EndParams) (running : Option Running)
       None,
     )
 unfolding abort_step aborted_from
-abort_none role params running answering silent next clocks r =
+abort-none role params running answering silent next clocks r =
     rw (found_own (out_key role params.acked) (session_of running clocks.sending), r) refl
 
 aborted-number : (ticks : TimerTicks) (session new : Session) (heard : Heard)
@@ -95,10 +95,10 @@ abort-core : (role : Role) (params : EndParams) (session : Session) (new : Runni
     )
 unfolding aborted_from
 abort-core role params session new answering silent next clocks left heard e =
-    rw (e, put_own (out_key role params.acked) (Some session) (Some (shown new left))) refl
+    rw (e, put-own (out_key role params.acked) (Some session) (Some (shown new left))) refl
 
 -- to abort changes the session and its timer alone, with a report where the session fails by it
-pub abort_some : (role : Role) (params : EndParams) (running : Option Running) (old new : Running)
+pub abort-some : (role : Role) (params : EndParams) (running : Option Running) (old new : Running)
     (answering silent : Receiver) (next : ℕ) (clocks clocks' : ClocksData) (heard : Heard)
     (report : Option Report) → running ≡ Some old
     → session_aborted params.ticks (shown old clocks.sending) ≡ (shown new clocks'.sending, heard)
@@ -111,7 +111,7 @@ pub abort_some : (role : Role) (params : EndParams) (running : Option Running) (
       report,
     )
 unfolding abort_step
-abort_some role params running old new answering silent next clocks clocks' heard report r e o p =
+abort-some role params running old new answering silent next clocks clocks' heard report r e o p =
     let number =
     aborted-number params.ticks (shown old clocks.sending) (shown new clocks'.sending) heard e
     in
@@ -142,10 +142,10 @@ own-other Gateway = refl
 unanswered-found : (role : Role) (acked : Bool) (session : Option Session) → acked ≡ false
     → found (out_key role true) (entry (out_key role acked) session) ≡ None
 unanswered-found role acked session a =
-    rw a (found_other (out_key role true) (out_key role false) session (own-other role))
+    rw a (found-other (out_key role true) (out_key role false) session (own-other role))
 
 -- an answer to an end that sends without answers is a remnant, and changes nothing
-pub hear_unanswered : (role : Role) (params : EndParams) (running : Option Running)
+pub hear-unanswered : (role : Role) (params : EndParams) (running : Option Running)
     (answering silent : Receiver) (next : ℕ) (clocks : ClocksData) (message : Message)
     → params.acked ≡ false
     → answer_taken (seen role params running answering silent next clocks) (out_key role true)
@@ -156,7 +156,7 @@ pub hear_unanswered : (role : Role) (params : EndParams) (running : Option Runni
       (note.Remnant, None),
     )
 unfolding answer_taken
-hear_unanswered role params running answering silent next clocks message a =
+hear-unanswered role params running answering silent next clocks message a =
     rw (unanswered-found role params.acked (session_of running clocks.sending) a) refl
 
 answered-found : (role : Role) (acked : Bool) (session : Option Session) → acked ≡ true
@@ -164,7 +164,7 @@ answered-found : (role : Role) (acked : Bool) (session : Option Session) → ack
 answered-found role acked session a = rw a (found_own (out_key role true) session)
 
 -- an answer to an end that has no session under way is a remnant, and changes nothing
-pub hear_none : (role : Role) (params : EndParams) (running : Option Running)
+pub hear-none : (role : Role) (params : EndParams) (running : Option Running)
     (answering silent : Receiver) (next : ℕ) (clocks : ClocksData) (message : Message)
     → params.acked ≡ true → running ≡ None
     → answer_taken (seen role params running answering silent next clocks) (out_key role true)
@@ -175,7 +175,7 @@ pub hear_none : (role : Role) (params : EndParams) (running : Option Running)
       (note.Remnant, None),
     )
 unfolding answer_taken
-hear_none role params running answering silent next clocks message a r =
+hear-none role params running answering silent next clocks message a r =
     rw (answered-found role params.acked (session_of running clocks.sending) a, r) refl
 
 heard-number : (ticks : TimerTicks) (message : Message) (session new : Session) (heard : Heard)
@@ -186,7 +186,7 @@ heard-number ticks message session new heard e = ap (λ step. step.0.number) e
 heard-put : (role : Role) (acked : Bool) (old new : Option Session) → acked ≡ true
     → put_in (out_key role true) new (entry (out_key role acked) old) ≡ entry (out_key role acked)
     new
-heard-put role acked old new a = rw a (put_own (out_key role true) old new)
+heard-put role acked old new a = rw a (put-own (out_key role true) old new)
 
 hear-core : (role : Role) (params : EndParams) (message : Message) (session : Session)
     (new : Running) (answering silent : Receiver) (next : ℕ) (clocks : ClocksData) (left : Option ℕ)
@@ -214,7 +214,7 @@ hear-core role params message session new answering silent next clocks left hear
 
 -- where an end that sends with answers has a session, an answer is a step of that and its timer
 -- alone, is noted as what it meant, and is reported where the session ends by it
-pub hear_some : (role : Role) (params : EndParams) (running : Option Running) (old new : Running)
+pub hear-some : (role : Role) (params : EndParams) (running : Option Running) (old new : Running)
     (answering silent : Receiver) (next : ℕ) (clocks clocks' : ClocksData) (message : Message)
     (heard : Heard) (meaning : Note) (report : Option Report) → params.acked ≡ true
     → running ≡ Some old
@@ -229,7 +229,7 @@ pub hear_some : (role : Role) (params : EndParams) (running : Option Running) (o
           answering silent next clocks',
       (meaning, report),
     )
-hear_some role params running old new answering silent next clocks clocks' message heard meaning
+hear-some role params running old new answering silent next clocks clocks' message heard meaning
     report a r e o m p =
     let number =
     heard-number params.ticks message (shown old clocks.sending) (shown new clocks'.sending)
@@ -280,10 +280,10 @@ unfolding fragment_taken
 receive-answering role params running answering silent new next clocks left message payload meaning
     e =
     rw (
-      found_in role true (record { receiver = answering; left = clocks.answering })
+      found-in role true (record { receiver = answering; left = clocks.answering })
           (record { receiver = silent; left = clocks.silent }),
       e,
-      put_answering role
+      put-answering role
           (record { receiver = answering; left = clocks.answering })
           (record { receiver = silent; left = clocks.silent })
           (record { receiver = new; left = left }),
@@ -308,10 +308,10 @@ receive-silent : (role : Role) (params : EndParams) (running : Option Running)
 unfolding fragment_taken
 receive-silent role params running answering silent new next clocks left message payload meaning e =
     rw (
-      found_in role false (record { receiver = answering; left = clocks.answering })
+      found-in role false (record { receiver = answering; left = clocks.answering })
           (record { receiver = silent; left = clocks.silent }),
       e,
-      put_silent role
+      put-silent role
           (record { receiver = answering; left = clocks.answering })
           (record { receiver = silent; left = clocks.silent })
           (record { receiver = new; left = left }),
@@ -370,7 +370,7 @@ receive_silent role params running answering silent new next clocks clocks' mess
 -- A frame, as it is read.
 
 -- bytes that are read as a message of the other end do what it does to the receiver of their port
-pub fragment_ok : (s : SessionsData) (t : SessionsData × Note) (port : ℕ) (params : FragParams)
+pub fragment-ok : (s : SessionsData) (t : SessionsData × Note) (port : ℕ) (params : FragParams)
     (acked answered : Bool) (bytes : List ℕ) (message : Message) (read : Result Message WireFault)
     → sending_of (other_role s.role) acked ≡ (port, params) → answered ≡ acked
     → read ≡ reading_in params.mode side.Fragments bytes → read ≡ Ok message
@@ -378,7 +378,7 @@ pub fragment_ok : (s : SessionsData) (t : SessionsData × Note) (port : ℕ) (pa
     (found (in_key s.role answered) s.receivers) ≡ t
     → fragment_read s (port_key port) bytes (reading_in params.mode side.Fragments bytes) ≡ t
 unfolding fragment_read
-fragment_ok s t port params acked answered bytes message read w a r o e =
+fragment-ok s t port params acked answered bytes message read w a r o e =
     let key : in_key s.role answered ≡ port_key port = ap (λ b. in_key s.role b) a
     ∙ ap (λ way. port_key way.0) w in
     rw (sym r ∙ o)
@@ -386,50 +386,50 @@ fragment_ok s t port params acked answered bytes message read w a r o e =
     (found key s.receivers) ≡ t) key e)
 
 -- bytes that are no fragment are refused with the fault of reading them, and change nothing
-pub fragment_err : (s : SessionsData) (port : ℕ) (params : FragParams) (bytes : List ℕ)
+pub fragment-err : (s : SessionsData) (port : ℕ) (params : FragParams) (bytes : List ℕ)
     (fault : WireFault) (read : Result Message WireFault)
     → read ≡ reading_in params.mode side.Fragments bytes → read ≡ Err fault
     → fragment_read s (port_key port) bytes
     (reading_in params.mode side.Fragments bytes) ≡ (s, note.Refused (Wire fault))
 unfolding fragment_read
-fragment_err s port params bytes fault read r o = rw (sym r ∙ o) refl
+fragment-err s port params bytes fault read r o = rw (sym r ∙ o) refl
 
 -- bytes that are read as an answer do what that answer does to the session of the key
-pub answer_ok : (s : SessionsData) (t : SessionsData × (Note × Option Report)) (key : SessionKey)
+pub answer-ok : (s : SessionsData) (t : SessionsData × (Note × Option Report)) (key : SessionKey)
     (params : FragParams) (bytes : List ℕ) (message : Message) (read : Result Message WireFault)
     → read ≡ reading_in params.mode side.Answers bytes → read ≡ Ok message
     → answer_taken s key message (found key s.senders) ≡ t
     → answer_read s key (reading_in params.mode side.Answers bytes) ≡ t
 unfolding answer_read
-answer_ok s t key params bytes message read r o e = rw (sym r ∙ o) e
+answer-ok s t key params bytes message read r o e = rw (sym r ∙ o) e
 
 -- bytes that are no answer are refused with the fault of reading them, without report or change
-pub answer_err : (s : SessionsData) (key : SessionKey) (params : FragParams) (bytes : List ℕ)
+pub answer-err : (s : SessionsData) (key : SessionKey) (params : FragParams) (bytes : List ℕ)
     (fault : WireFault) (read : Result Message WireFault)
     → read ≡ reading_in params.mode side.Answers bytes → read ≡ Err fault
     → answer_read s key
     (reading_in params.mode side.Answers bytes) ≡ (s, (note.Refused (Wire fault), None))
 unfolding answer_read
-answer_err s key params bytes fault read r o = rw (sym r ∙ o) refl
+answer-err s key params bytes fault read r o = rw (sym r ∙ o) refl
 
 -- a frame by a port of fragments does what the fragment does, and reports no end of a session
-pub take_fragments : (s t : SessionsData) (port : ℕ) (params : FragParams) (bytes : List ℕ)
+pub take-fragments : (s t : SessionsData) (port : ℕ) (params : FragParams) (bytes : List ℕ)
     (meaning : Note) (means : PortMeaning) → means ≡ meaning_of s.role port
     → means ≡ Fragments params
     → fragment_read s (port_key port) bytes
     (reading_in params.mode side.Fragments bytes) ≡ (t, meaning)
     → take_step port bytes s ≡ (t, (meaning, None))
 unfolding take_step take_from
-take_fragments s t port params bytes meaning means m f e = rw (sym m ∙ f, e) refl
+take-fragments s t port params bytes meaning means m f e = rw (sym m ∙ f, e) refl
 
 -- a frame by a port of answers does what the answer does to the session that goes by that port
-pub take_answers : (s : SessionsData) (t : SessionsData × (Note × Option Report)) (port : ℕ)
+pub take-answers : (s : SessionsData) (t : SessionsData × (Note × Option Report)) (port : ℕ)
     (params : FragParams) (bytes : List ℕ) (means : PortMeaning) → means ≡ meaning_of s.role port
     → means ≡ Answers params → sending_of s.role true ≡ (port, params)
     → answer_read s (out_key s.role true) (reading_in params.mode side.Answers bytes) ≡ t
     → take_step port bytes s ≡ t
 unfolding take_step take_from
-take_answers s t port params bytes means m f w e =
+take-answers s t port params bytes means m f w e =
     rw (sym m ∙ f)
     (subst (λ key. answer_read s key (reading_in params.mode side.Answers bytes) ≡ t)
     (ap (λ way. port_key way.0) w) e)
@@ -447,50 +447,50 @@ unfolding take_step take_from
 take-unknown s port bytes means m f = rw (sym m ∙ f) refl
 
 -- a frame by a port of whole packets, or by an unknown one, is refused and changes nothing
-pub take_neither : (s : SessionsData) (port : ℕ) (bytes : List ℕ) (means : PortMeaning)
+pub take-neither : (s : SessionsData) (port : ℕ) (bytes : List ℕ) (means : PortMeaning)
     → means ≡ meaning_of s.role port → (means ≡ Whole) ⊎ (means ≡ Unknown)
     → take_step port bytes s ≡ (s, (note.Refused UnknownPort, None))
-take_neither s port bytes means m (inl f) = take-whole s port bytes means m f
-take_neither s port bytes means m (inr f) = take-unknown s port bytes means m f
+take-neither s port bytes means m (inl f) = take-whole s port bytes means m f
+take-neither s port bytes means m (inr f) = take-unknown s port bytes means m f
 
 -- A preview.
 
 -- the preview of an answered fragment is that of the receiver that answers
-pub preview_answering : (role : Role) (params : EndParams) (running : Option Running)
+pub preview-answering : (role : Role) (params : EndParams) (running : Option Running)
     (answering silent : Receiver) (next : ℕ) (clocks : ClocksData) (s : SessionsData) (acked : Bool)
     (message : Message) (payload : List Bool)
     → seen role params running answering silent next clocks ≡ s → acked ≡ true
     → receiver_previewed message payload answering ≡ fragment_previewed message payload
     (found (in_key s.role acked) s.receivers)
 unfolding fragment_previewed
-preview_answering role params running answering silent next clocks s acked message payload v a =
+preview-answering role params running answering silent next clocks s acked message payload v a =
     subst (λ s. receiver_previewed message payload answering ≡ fragment_previewed message payload
     (found (in_key s.role acked) s.receivers)) v
     (rw (
       a,
-      found_in role true (record { receiver = answering; left = clocks.answering })
+      found-in role true (record { receiver = answering; left = clocks.answering })
           (record { receiver = silent; left = clocks.silent }),
     ) refl)
 
 -- the preview of a fragment without answers is that of the silent receiver
-pub preview_silent : (role : Role) (params : EndParams) (running : Option Running)
+pub preview-silent : (role : Role) (params : EndParams) (running : Option Running)
     (answering silent : Receiver) (next : ℕ) (clocks : ClocksData) (s : SessionsData) (acked : Bool)
     (message : Message) (payload : List Bool)
     → seen role params running answering silent next clocks ≡ s → acked ≡ false
     → receiver_previewed message payload silent ≡ fragment_previewed message payload
     (found (in_key s.role acked) s.receivers)
 unfolding fragment_previewed
-preview_silent role params running answering silent next clocks s acked message payload v a =
+preview-silent role params running answering silent next clocks s acked message payload v a =
     subst (λ s. receiver_previewed message payload silent ≡ fragment_previewed message payload
     (found (in_key s.role acked) s.receivers)) v
     (rw (
       a,
-      found_in role false (record { receiver = answering; left = clocks.answering })
+      found-in role false (record { receiver = answering; left = clocks.answering })
           (record { receiver = silent; left = clocks.silent }),
     ) refl)
 
 -- the preview of bytes that are read as a fragment is that of it at the receiver of the port
-pub preview_ok : (s : SessionsData) (port : ℕ) (params : FragParams) (acked answered : Bool)
+pub preview-ok : (s : SessionsData) (port : ℕ) (params : FragParams) (acked answered : Bool)
     (bytes : List ℕ) (message : Message) (read : Result Message WireFault)
     → sending_of (other_role s.role) acked ≡ (port, params) → answered ≡ acked
     → read ≡ reading_in params.mode side.Fragments bytes → read ≡ Ok message
@@ -498,7 +498,7 @@ pub preview_ok : (s : SessionsData) (port : ℕ) (params : FragParams) (acked an
     (found (in_key s.role answered) s.receivers) ≡ read_previewed s (port_key port) bytes
     (reading_in params.mode side.Fragments bytes)
 unfolding read_previewed
-preview_ok s port params acked answered bytes message read w a r o =
+preview-ok s port params acked answered bytes message read w a r o =
     let key : in_key s.role answered ≡ port_key port = ap (λ b. in_key s.role b) a
     ∙ ap (λ way. port_key way.0) w in
     rw (sym r ∙ o)
@@ -506,20 +506,20 @@ preview_ok s port params acked answered bytes message read w a r o =
     (found key s.receivers)) key)
 
 -- the preview of bytes that are no fragment gives no bits
-pub preview_err : (s : SessionsData) (port : ℕ) (params : FragParams) (bytes : List ℕ)
+pub preview-err : (s : SessionsData) (port : ℕ) (params : FragParams) (bytes : List ℕ)
     (fault : WireFault) (read : Result Message WireFault)
     → read ≡ reading_in params.mode side.Fragments bytes → read ≡ Err fault
     → None ≡ read_previewed s (port_key port) bytes (reading_in params.mode side.Fragments bytes)
 unfolding read_previewed
-preview_err s port params bytes fault read r o = rw (sym r ∙ o) refl
+preview-err s port params bytes fault read r o = rw (sym r ∙ o) refl
 
 -- the preview of a frame by a port of fragments is that of the fragment as which it is read
-pub preview_fragments : (s : SessionsData) (port : ℕ) (params : FragParams) (bytes : List ℕ)
+pub preview-fragments : (s : SessionsData) (port : ℕ) (params : FragParams) (bytes : List ℕ)
     (means : PortMeaning) → means ≡ meaning_of s.role port → means ≡ Fragments params
     → read_previewed s (port_key port) bytes
     (reading_in params.mode side.Fragments bytes) ≡ preview_of port bytes s
 unfolding preview_of preview_from
-preview_fragments s port params bytes means m f = rw (sym m ∙ f) refl
+preview-fragments s port params bytes means m f = rw (sym m ∙ f) refl
 
 -- fragments don't come by the port
 preview-from : (s : SessionsData) (key : SessionKey) (bytes : List ℕ) (means : PortMeaning)
@@ -531,10 +531,10 @@ preview-from s key bytes Whole h = refl
 preview-from s key bytes Unknown h = refl
 
 -- the preview of a frame gives no bits where no fragments come by its port
-pub preview_other : (s : SessionsData) (port : ℕ) (bytes : List ℕ) (means : PortMeaning)
+pub preview-other : (s : SessionsData) (port : ℕ) (bytes : List ℕ) (means : PortMeaning)
     → means ≡ meaning_of s.role port → ((params : FragParams) → means ≡ Fragments params → ⊥)
     → None ≡ preview_of port bytes s
 unfolding preview_of
-preview_other s port bytes means m h =
+preview-other s port bytes means m h =
     subst (λ x. None ≡ preview_from s (port_key port) bytes x) m
     (preview-from s (port_key port) bytes means h)

@@ -39,13 +39,13 @@ due-three a b c false false true e f g = rw (e, f, g) refl
 due-three a b c false false false e f g = rw (e, f, g) refl
 
 -- the lowest key that is due in a list of three timers is that of the first timer that is due
-pub due_clock : (timers : List (Option ℕ)) → length timers ≡ 3
+pub due-clock : (timers : List (Option ℕ)) → length timers ≡ 3
     → option_map clock_at (first_due timers) ≡ first_clock (clocks_of timers)
-due_clock [] h = absurd (omega (arith, h))
-due_clock (a ∷ []) h = absurd (omega (arith, h))
-due_clock (a ∷ b ∷ []) h = absurd (omega (arith, h))
-due_clock (a ∷ b ∷ c ∷ []) h = due-three a b c (is_due a) (is_due b) (is_due c) refl refl refl
-due_clock (a ∷ b ∷ c ∷ d ∷ xs) h = absurd (omega (arith, h))
+due-clock [] h = absurd (omega (arith, h))
+due-clock (a ∷ []) h = absurd (omega (arith, h))
+due-clock (a ∷ b ∷ []) h = absurd (omega (arith, h))
+due-clock (a ∷ b ∷ c ∷ []) h = due-three a b c (is_due a) (is_due b) (is_due c) refl refl refl
+due-clock (a ∷ b ∷ c ∷ d ∷ xs) h = absurd (omega (arith, h))
 
 taken-three : (a b c : Option ℕ) (x y z : Bool) → is_due a ≡ x → is_due b ≡ y → is_due c ≡ z
     → clocks_of (without (a ∷ b ∷ c ∷ []) (first_due (a ∷ b ∷ c ∷ []))) ≡ without_clock
@@ -57,14 +57,14 @@ taken-three a b c false false true e f g = rw (e, f, g) refl
 taken-three a b c false false false e f g = rw (e, f, g) refl
 
 -- to take the lowest key that is due out of a list of three disarms the first timer that is due
-pub taken_clock : (timers : List (Option ℕ)) → length timers ≡ 3
+pub taken-clock : (timers : List (Option ℕ)) → length timers ≡ 3
     → clocks_of (without timers (first_due timers)) ≡ without_clock (first_clock (clocks_of timers))
     (clocks_of timers)
-taken_clock [] h = absurd (omega (arith, h))
-taken_clock (a ∷ []) h = absurd (omega (arith, h))
-taken_clock (a ∷ b ∷ []) h = absurd (omega (arith, h))
-taken_clock (a ∷ b ∷ c ∷ []) h = taken-three a b c (is_due a) (is_due b) (is_due c) refl refl refl
-taken_clock (a ∷ b ∷ c ∷ d ∷ xs) h = absurd (omega (arith, h))
+taken-clock [] h = absurd (omega (arith, h))
+taken-clock (a ∷ []) h = absurd (omega (arith, h))
+taken-clock (a ∷ b ∷ []) h = absurd (omega (arith, h))
+taken-clock (a ∷ b ∷ c ∷ []) h = taken-three a b c (is_due a) (is_due b) (is_due c) refl refl refl
+taken-clock (a ∷ b ∷ c ∷ d ∷ xs) h = absurd (omega (arith, h))
 
 or-true : (b : Bool) → (b || true) ≡ true
 or-true true = refl
@@ -140,10 +140,10 @@ leads clocks due =
     (is_due clocks.answering) (is_due clocks.silent) refl refl refl
 
 -- the timer that is taken out leaves what is to be taken out, and no timer leaves nothing
-pub leads_some : (clocks : ClocksData) (due : Due) (clock : Clock) → Some clock ≡ first_clock clocks
+pub leads-some : (clocks : ClocksData) (due : Due) (clock : Clock) → Some clock ≡ first_clock clocks
     → Leads clock clocks due
-leads_some clocks due clock e = subst (λ o. LeadsOn o clocks due) (sym e) (leads clocks due)
+leads-some clocks due clock e = subst (λ o. LeadsOn o clocks due) (sym e) (leads clocks due)
 
 -- where no timer is due, all stay as they are, and none is added to those that were due
-pub ends_none : (clocks : ClocksData) (due : Due) → None ≡ first_clock clocks → Ends clocks due
-ends_none clocks due e = subst (λ o. LeadsOn o clocks due) (sym e) (leads clocks due)
+pub ends-none : (clocks : ClocksData) (due : Due) → None ≡ first_clock clocks → Ends clocks due
+ends-none clocks due e = subst (λ o. LeadsOn o clocks due) (sym e) (leads clocks due)

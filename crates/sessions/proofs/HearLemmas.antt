@@ -20,11 +20,11 @@ answer-to (AckAlways s) params message e h = tt
 answer-to (AckOnError s) params message e h = subst (λ p. IsAnswer p message) (sym e) h
 
 -- the session of an end that sends with answers can be asked what any answer to that end means
-pub has_answer : (role : Role) (params : EndParams) (running : Option Running) (session : Running)
+pub has-answer : (role : Role) (params : EndParams) (running : Option Running) (session : Running)
     (left : Option ℕ) (message : Message) (other : Role) → params.acked ≡ true
     → running ≡ Some session → AreRunning role params running left → other ≡ role
     → IsAnswer (sending_of other true).1 message → HasAnswer session.sender message
-has_answer role params running session left message other a r h o i =
+has-answer role params running session left message other a r h o i =
     let was : IsRunning role params session left = subst (λ x. AreRunning role params x left) r h in
     let row = was.row ∙ ap (λ acked. (sending_of role acked).1) a
     ∙ ap (λ x. (sending_of x true).1) (sym o) in

@@ -27,17 +27,17 @@ found_own key None = refl
 found_own key (Some x) = rw (same_key_refl key)
 
 -- in a list that has at most this key, what is put in takes the place of what the key had
-pub put_own : {A : Type 0} (key : SessionKey) (old new : Option A)
+pub put-own : {A : Type 0} (key : SessionKey) (old new : Option A)
     → put_in key new (entry key old) ≡ entry key new
 unfolding put_in entry without
-put_own key None None = refl
-put_own key None (Some y) = refl
-put_own key (Some x) None = rw (same_key_refl key)
-put_own key (Some x) (Some y) = rw (same_key_refl key)
+put-own key None None = refl
+put-own key None (Some y) = refl
+put-own key (Some x) None = rw (same_key_refl key)
+put-own key (Some x) (Some y) = rw (same_key_refl key)
 
 -- a list that has at most another key has nothing for this one
-pub found_other : {A : Type 0} (key other : SessionKey) (o : Option A) → same_key key other ≡ false
+pub found-other : {A : Type 0} (key other : SessionKey) (o : Option A) → same_key key other ≡ false
     → found key (entry other o) ≡ None
 unfolding found entry
-found_other key other None e = refl
-found_other key other (Some x) e = rw e
+found-other key other None e = refl
+found-other key other (Some x) e = rw e

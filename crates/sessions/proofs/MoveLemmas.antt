@@ -28,15 +28,15 @@ use Rattle.sessions.specs.declared.moves.Running.{Running}
 use Rattle.sessions.specs.declared.out.SessionOut.{SessionOut}
 use Rattle.sessions.specs.declared.receivers.Receiver.{Receiver}
 use Rattle.sessions.specs.declared.senders.Sender.{Sender}
-use Rattle.sessions.proofs.SenderLemmas.{GoesOn, sent_still, retried_goes, retried_leaves}
-use Rattle.sessions.proofs.StepLemmas.{left_timed}
+use Rattle.sessions.proofs.SenderLemmas.{GoesOn, sent-still, retried-goes, retried-leaves}
+use Rattle.sessions.proofs.StepLemmas.{left-timed}
 
 -- what is left of the timer follows from where the senders stand before and after the step
-pub left_is : (ticks : TimerTicks) (old new : Sender) (before after : SenderPhase) (left : Option ℕ)
+pub left-is : (ticks : TimerTicks) (old new : Sender) (before after : SenderPhase) (left : Option ℕ)
     → before ≡ sender_phase old → after ≡ sender_phase new
     → sender_left ticks before after left ≡ sender_left ticks (sender_phase old) (sender_phase new)
     left
-left_is ticks old new before after left b a = rw (b, a) refl
+left-is ticks old new before after left b a = rw (b, a) refl
 
 same-left : (ticks : TimerTicks) (phase : SenderPhase) (left : Option ℕ)
     → sender_left ticks phase phase left ≡ left
@@ -47,66 +47,66 @@ same-left ticks Closing left = refl
 same-left ticks Quiet left = refl
 
 -- the session goes on, and its timer runs where it should
-pub moved_keeps : (ticks : TimerTicks) (number : ℕ) (old new : Sender) (left left' : Option ℕ)
+pub moved-keeps : (ticks : TimerTicks) (number : ℕ) (old new : Sender) (left left' : Option ℕ)
     → GoesOn old new → left' ≡ sender_left ticks (sender_phase old) (sender_phase new) left
     → (role : Role) (params : EndParams)
     → IsRunning role params (record { number = number; sender = old }) left
     → IsRunning role params (record { number = number; sender = new }) left'
-moved_keeps ticks number old new left left' goes l role params h = record {
+moved-keeps ticks number old new left left' goes l role params h = record {
   row = goes.params ∙ h.row;
   mtu = goes.mtu ∙ h.mtu;
-  timed = ap is_armed l ∙ left_timed ticks (sender_phase old) (sender_phase new) left h.timed;
+  timed = ap is_armed l ∙ left-timed ticks (sender_phase old) (sender_phase new) left h.timed;
 }
 
 -- a message was given
-pub given_after : (ticks : TimerTicks) (number : ℕ) (old new : Sender) (left left' : Option ℕ)
+pub given-after : (ticks : TimerTicks) (number : ℕ) (old new : Sender) (left left' : Option ℕ)
     → new ≡ sender_sent old → left' ≡ sender_left ticks (sender_phase old) (sender_phase new) left
     → shown (record { number = number; sender = new }) left' ≡ session_sent ticks
     (shown (record { number = number; sender = old }) left)
 unfolding session_sent session_moved
-given_after ticks number old new left left' s l = rw (l, s) refl
+given-after ticks number old new left left' s l = rw (l, s) refl
 
 -- where these bytes are due, what is given is a frame of them by the port, with the report that the
 -- session makes as it sends
-pub given_is : (port : ℕ) (kind : EmitKind) (report : Option Report) (session : Session)
+pub given-is : (port : ℕ) (kind : EmitKind) (report : Option Report) (session : Session)
     (bytes : List ℕ) (due : Option (List ℕ)) → due ≡ Some bytes → report ≡ sent_report session
     → Some (record
     { frame = record { port = port; bytes = bytes }; kind = kind; report = report }) ≡ option_map
     (λ bytes. given (port_key port) bytes kind (sent_report session)) due
-given_is port kind report session bytes due d r = rw (d, r) refl
+given-is port kind report session bytes due d r = rw (d, r) refl
 
 -- the report by where a sender stands before and after it gave its message is that of its session
-pub report_is : (number : ℕ) (old new : Sender) (left : Option ℕ) (before after : SenderPhase)
+pub report-is : (number : ℕ) (old new : Sender) (left : Option ℕ) (before after : SenderPhase)
     (report : Option Report) → before ≡ sender_phase old → after ≡ sender_phase new
     → new ≡ sender_sent old → report ≡ reported number (sent_kind before after)
     → report ≡ sent_report (shown (record { number = number; sender = old }) left)
 unfolding sent_report
-report_is number old new left before after report b a n r = rw (r, b, a, n) refl
+report-is number old new left before after report b a n r = rw (r, b, a, n) refl
 
 -- nothing was due
-pub still_same : (old new : Sender) → new ≡ sender_sent old → sender_due old ≡ None → new ≡ old
-still_same old new n d = n ∙ sent_still old d
+pub still-same : (old new : Sender) → new ≡ sender_sent old → sender_due old ≡ None → new ≡ old
+still-same old new n d = n ∙ sent-still old d
 
 -- where nothing is due, to give a message leaves the timer of the session as it was
-pub still_after : (ticks : TimerTicks) (number : ℕ) (old new : Sender) (left : Option ℕ)
+pub still-after : (ticks : TimerTicks) (number : ℕ) (old new : Sender) (left : Option ℕ)
     → new ≡ sender_sent old → sender_due old ≡ None
     → shown (record { number = number; sender = new }) left ≡ session_sent ticks
     (shown (record { number = number; sender = old }) left)
 unfolding session_sent session_moved
-still_after ticks number old new left n d =
-    rw (n, sent_still old d, same-left ticks (sender_phase old) left) refl
+still-after ticks number old new left n d =
+    rw (n, sent-still old d, same-left ticks (sender_phase old) left) refl
 
 -- where nothing is due, a session of the end is still one after giving, with the same timer
-pub still_keeps : (number : ℕ) (old new : Sender) (left : Option ℕ) → new ≡ sender_sent old
+pub still-keeps : (number : ℕ) (old new : Sender) (left : Option ℕ) → new ≡ sender_sent old
     → sender_due old ≡ None → (role : Role) (params : EndParams)
     → IsRunning role params (record { number = number; sender = old }) left
     → IsRunning role params (record { number = number; sender = new }) left
-still_keeps number old new left n d role params h =
+still-keeps number old new left n d role params h =
     subst (λ s. IsRunning role params (record { number = number; sender = s }) left)
-    (sym (still_same old new n d)) h
+    (sym (still-same old new n d)) h
 
 -- an answer was heard
-pub heard_exact : (ticks : TimerTicks) (message : Message) (number : ℕ) (old new : Sender)
+pub heard-exact : (ticks : TimerTicks) (message : Message) (number : ℕ) (old new : Sender)
     (heard : Heard) (left left' : Option ℕ) → sender_heard message old ≡ (new, heard)
     → left' ≡ sender_left ticks (sender_phase old) (sender_phase new) left
     → session_heard ticks message
@@ -116,10 +116,10 @@ pub heard_exact : (ticks : TimerTicks) (message : Message) (number : ℕ) (old n
       heard,
     )
 unfolding session_heard session_moved
-heard_exact ticks message number old new heard left left' e l = rw (e, l) refl
+heard-exact ticks message number old new heard left left' e l = rw (e, l) refl
 
 -- the session was given up
-pub aborted_exact : (ticks : TimerTicks) (number : ℕ) (old new : Sender) (heard : Heard)
+pub aborted-exact : (ticks : TimerTicks) (number : ℕ) (old new : Sender) (heard : Heard)
     (left left' : Option ℕ) → sender_aborted old ≡ (new, heard)
     → left' ≡ sender_left ticks (sender_phase old) (sender_phase new) left
     → session_aborted ticks
@@ -129,7 +129,7 @@ pub aborted_exact : (ticks : TimerTicks) (number : ℕ) (old new : Sender) (hear
       heard,
     )
 unfolding session_aborted session_moved
-aborted_exact ticks number old new heard left left' e l = rw (e, l) refl
+aborted-exact ticks number old new heard left left' e l = rw (e, l) refl
 
 -- its timer was due
 row-of : (role : Role) (params : EndParams) (running : Option Running) (session : Running)
@@ -139,39 +139,39 @@ row-of role params running session left e h = subst (λ o. AreRunning role param
 
 -- a session of the end that waited is still one when its retransmission timer was due, and a timer
 -- runs then where it should
-pub fired_keeps_waiting : (ticks : TimerTicks) (running : Option Running) (session : Running)
+pub fired-keeps-waiting : (ticks : TimerTicks) (running : Option Running) (session : Running)
     (new : Sender) (heard : Heard) (left' : Option ℕ) → running ≡ Some session
     → sender_phase session.sender ≡ Waiting → sender_retried session.sender ≡ (new, heard)
     → left' ≡ sender_left ticks Waiting (sender_phase new) None
     → (role : Role) (params : EndParams) (left : Option ℕ) → AreRunning role params running left
     → IsRunning role params (record { number = session.number; sender = new }) left'
-fired_keeps_waiting ticks running session new heard left' r w e l role params left h =
+fired-keeps-waiting ticks running session new heard left' r w e l role params left h =
     let was = row-of role params running session left r h in
-    let goes = subst (λ step. GoesOn session.sender step.0) e (retried_goes session.sender) in
+    let goes = subst (λ step. GoesOn session.sender step.0) e (retried-goes session.sender) in
     let leaves =
     subst (λ step. is_armed
     (sender_left ticks Waiting (sender_phase step.0) None) ≡ sender_timed (sender_phase step.0))
-    e (retried_leaves session.sender w ticks) in
+    e (retried-leaves session.sender w ticks) in
     record { row = goes.params ∙ was.row; mtu = goes.mtu ∙ was.mtu; timed = ap is_armed l ∙ leaves }
 
-pub fired_keeps_still : (running : Option Running) (session : Running) (left' : Option ℕ)
+pub fired-keeps-still : (running : Option Running) (session : Running) (left' : Option ℕ)
     → running ≡ Some session → sender_timed (sender_phase session.sender) ≡ false → left' ≡ None
     → (role : Role) (params : EndParams) (left : Option ℕ) → AreRunning role params running left
     → IsRunning role params session left'
-fired_keeps_still running session left' r p l role params left h =
+fired-keeps-still running session left' r p l role params left h =
     let was = row-of role params running session left r h in
     record { row = was.row; mtu = was.mtu; timed = ap is_armed l ∙ sym p }
 
 -- a message was taken
-pub left_of_set : (c : Clock) (left : Option ℕ) (clocks : ClocksData)
+pub left_of-set : (c : Clock) (left : Option ℕ) (clocks : ClocksData)
     → left_of c (set_clock c left clocks) ≡ left
-left_of_set clock.Sending left clocks = refl
-left_of_set clock.Answering left clocks = refl
-left_of_set clock.Silent left clocks = refl
+left_of-set clock.Sending left clocks = refl
+left_of-set clock.Answering left clocks = refl
+left_of-set clock.Silent left clocks = refl
 
 -- what an end keeps of a receiver that took a message is the receiver after it, with the timer that
 -- follows from where it stood, where it stands and what the message meant
-pub taken_exact : (ticks : TimerTicks) (message : Message) (payload : List Bool)
+pub taken-exact : (ticks : TimerTicks) (message : Message) (payload : List Bool)
     (old new : Receiver) (note : Note) (before after : ReceiverPhase) (c : Clock)
     (clocks clocks' : ClocksData) → receiver_taken message payload old ≡ (new, note)
     → before ≡ receiver_phase old → after ≡ receiver_phase new
@@ -183,13 +183,13 @@ pub taken_exact : (ticks : TimerTicks) (message : Message) (payload : List Bool)
       note,
     )
 unfolding reception_taken
-taken_exact ticks message payload old new note before after c clocks clocks' e b a l =
+taken-exact ticks message payload old new note before after c clocks clocks' e b a l =
     rw (
       e,
       l,
       b,
       a,
-      left_of_set c
+      left_of-set c
           (receiver_left ticks (receiver_phase old) (receiver_phase new) note (left_of c clocks))
           clocks,
     ) refl

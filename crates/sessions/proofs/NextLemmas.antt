@@ -23,10 +23,10 @@ use Rattle.sessions.specs.Steps.{next_from, next_step}
 use Rattle.sessions.specs.declared.moves.Running.{Running}
 use Rattle.sessions.specs.declared.out.SessionOut.{SessionOut}
 use Rattle.sessions.specs.declared.receivers.Receiver.{Receiver}
-use Rattle.sessions.proofs.KeyLemmas.{put_own}
-use Rattle.sessions.proofs.MoveLemmas.{still_after}
-use Rattle.sessions.proofs.SenderLemmas.{sent_still}
-use Rattle.sessions.proofs.PortLemmas.{put_answering, put_silent}
+use Rattle.sessions.proofs.KeyLemmas.{put-own}
+use Rattle.sessions.proofs.MoveLemmas.{still-after}
+use Rattle.sessions.proofs.SenderLemmas.{sent-still}
+use Rattle.sessions.proofs.PortLemmas.{put-answering, put-silent}
 
 -- The message of the session.
 
@@ -77,11 +77,11 @@ unfolding next_from
 next-idle s = refl
 
 -- a session that waits or is quiet gives no message, and is kept as it is
-pub next_waiting : (ticks : TimerTicks) (key : SessionKey) (running : Option Running)
+pub next-waiting : (ticks : TimerTicks) (key : SessionKey) (running : Option Running)
     (session : Running) (left : Option ℕ) (p : SenderPhase) → running ≡ Some session
     → p ≡ sender_phase session.sender → (p ≡ Waiting) ⊎ (p ≡ Quiet)
     → IsNext ticks key (session_of running left) (Some (shown session left)) None
-next_waiting ticks key running session left p r e w =
+next-waiting ticks key running session left p r e w =
     let x : Session = shown session left in
     let core =
     next-at ticks key (Some x) (Some x) None
@@ -92,9 +92,9 @@ next_waiting ticks key running session left p r e w =
 still-session : (ticks : TimerTicks) (session : Session) → sender_due session.sender ≡ None
     → session_sent ticks session ≡ session
 still-session ticks session d =
-    sym (still_after ticks session.number session.sender (sender_sent session.sender) session.left
+    sym (still-after ticks session.number session.sender (sender_sent session.sender) session.left
     refl d) ∙ ap (λ x. shown (record { number = session.number; sender = x }) session.left)
-    (sent_still session.sender d)
+    (sent-still session.sender d)
 
 sends-due : (s : SessionsData) (key : SessionKey) (session : Session) (k : EmitKind)
     (due : Option (List ℕ)) (out : Option SessionOut) → sender_due session.sender ≡ due
@@ -104,7 +104,7 @@ sends-due : (s : SessionsData) (key : SessionKey) (session : Session) (k : EmitK
 unfolding sends
 sends-due s key session k None out d o = rw (o, still-session s.params.ticks session d) refl
 sends-due s key session k (Some bytes) out d o =
-    rw (o, put_own key (Some session) (Some (session_sent s.params.ticks session))) refl
+    rw (o, put-own key (Some session) (Some (session_sent s.params.ticks session))) refl
 
 next-message : (s : SessionsData) (key : SessionKey) (session : Session) (due : Option (List ℕ))
     → next_from s (GivesMessage key session due) ≡ sends s key session (kind.Goes session.number)
@@ -113,14 +113,14 @@ unfolding next_from
 next-message s key session due = refl
 
 -- a session that is sending or closing gives the message that is due, and is kept as after that
-pub next_sending : (ticks : TimerTicks) (key : SessionKey) (running : Option Running)
+pub next-sending : (ticks : TimerTicks) (key : SessionKey) (running : Option Running)
     (old new : Running) (left left' : Option ℕ) (p : SenderPhase) (out : Option SessionOut)
     → running ≡ Some old → p ≡ sender_phase old.sender → (p ≡ Sending) ⊎ (p ≡ Closing)
     → out ≡ option_map
     (λ bytes. given key bytes (kind.Goes old.number) (sent_report (shown old left)))
     (sender_due old.sender) → shown new left' ≡ session_sent ticks (shown old left)
     → IsNext ticks key (session_of running left) (Some (shown new left')) out
-next_sending ticks key running old new left left' p out r e w o a =
+next-sending ticks key running old new left left' p out r e w o a =
     let x : Session = shown old left in
     let step : (s : SessionsData) → s.params.ticks ≡ ticks
     → next_from (with-senders s (entry key (Some x)))
@@ -141,7 +141,7 @@ next_sending ticks key running old new left left' p out r e w o a =
 -- The answers.
 
 -- an answer that is due of the receiver that answers is given, whatever else is due
-pub answer_first : (role : Role) (params : EndParams) (running : Option Running)
+pub answer-first : (role : Role) (params : EndParams) (running : Option Running)
     (answering silent : Receiver) (next : ℕ) (clocks : ClocksData) (bytes : List ℕ)
     → receiver_due answering ≡ Some bytes → (rest : Choice)
     → next_from (seen role params running answering silent next clocks)
@@ -152,16 +152,16 @@ pub answer_first : (role : Role) (params : EndParams) (running : Option Running)
           (given (in_key role true) bytes kind.Answers None),
     )
 unfolding next_from answers_from answer_or reception_answered
-answer_first role params running answering silent next clocks bytes d rest =
+answer-first role params running answering silent next clocks bytes d rest =
     rw (
       d,
-      put_answering role (record { receiver = answering; left = clocks.answering })
+      put-answering role (record { receiver = answering; left = clocks.answering })
           (record { receiver = silent; left = clocks.silent })
           (record { receiver = receiver_answered answering; left = clocks.answering }),
     ) refl
 
 -- where the receiver that answers has none due, an answer that is due of the other one is given
-pub answer_second : (role : Role) (params : EndParams) (running : Option Running)
+pub answer-second : (role : Role) (params : EndParams) (running : Option Running)
     (answering silent : Receiver) (next : ℕ) (clocks : ClocksData) (bytes : List ℕ)
     → receiver_due answering ≡ None → receiver_due silent ≡ Some bytes → (rest : Choice)
     → next_from (seen role params running answering silent next clocks)
@@ -172,29 +172,29 @@ pub answer_second : (role : Role) (params : EndParams) (running : Option Running
           (given (in_key role false) bytes kind.Answers None),
     )
 unfolding next_from answers_from answer_or reception_answered
-answer_second role params running answering silent next clocks bytes n d rest =
+answer-second role params running answering silent next clocks bytes n d rest =
     rw (
       n,
       d,
-      put_silent role (record { receiver = answering; left = clocks.answering })
+      put-silent role (record { receiver = answering; left = clocks.answering })
           (record { receiver = silent; left = clocks.silent })
           (record { receiver = receiver_answered silent; left = clocks.silent }),
     ) refl
 
 -- where neither receiver has an answer due, what is given next is chosen among the rest
-pub no_answer : (role : Role) (params : EndParams) (running : Option Running)
+pub no-answer : (role : Role) (params : EndParams) (running : Option Running)
     (answering silent : Receiver) (next : ℕ) (clocks : ClocksData) → receiver_due answering ≡ None
     → receiver_due silent ≡ None → (rest : Choice)
     → answers_from (seen role params running answering silent next clocks).receivers rest ≡ rest
 unfolding answers_from answer_or
-no_answer role params running answering silent next clocks n d rest = rw (n, d) refl
+no-answer role params running answering silent next clocks n d rest = rw (n, d) refl
 
 -- an answer that is given whatever else is due is what the end gives next
-pub next_answer : (s t : SessionsData) (out : SessionOut)
+pub next-answer : (s t : SessionsData) (out : SessionOut)
     → ((rest : Choice) → next_from s (answers_from s.receivers rest) ≡ (t, Some out))
     → next_step s ≡ (t, Some out)
 unfolding next_step choice
-next_answer s t out h = h (message_choice s.senders)
+next-answer s t out h = h (message_choice s.senders)
 
 -- where no answer is due, the end gives next what its session gives, if anything
 pub next_message : (s : SessionsData) (t : SessionsData × Option SessionOut)
@@ -204,20 +204,20 @@ unfolding next_step choice
 next_message s t n h = ap (next_from s) (n (message_choice s.senders)) ∙ h
 
 -- what holds of the value of an Ok, and what holds because there is an Ok, hold together
-pub both_ok : {T E : Type 0} (P : T → Type 0) (Q : Type 0) (r : Result T E) → IfOk r P → OnOk r Q
+pub both-ok : {T E : Type 0} (P : T → Type 0) (Q : Type 0) (r : Result T E) → IfOk r P → OnOk r Q
     → IfOk r (λ x. P x × Q)
-both_ok P Q (Ok x) p q = (p, q)
-both_ok P Q (Err e) p q = tt
+both-ok P Q (Ok x) p q = (p, q)
+both-ok P Q (Err e) p q = tt
 
 -- what holds anyway holds where the result is an error
-pub on_err_of : {T E : Type 0} {Q : Type 0} (r : Result T E) → Q → OnErr r Q
-on_err_of (Ok x) q = tt
-on_err_of (Err e) q = q
+pub on-err-of : {T E : Type 0} {Q : Type 0} (r : Result T E) → Q → OnErr r Q
+on-err-of (Ok x) q = tt
+on-err-of (Err e) q = q
 
 -- what holds of the value, if there is one, holds of the one that is there
-pub some_of : {T : Type 0} (o : Option T) (P : T → Type 0) (x : T) → o ≡ Some x → IfSome o P → P x
-some_of o P x e h = subst (λ o. IfSome o P) e h
+pub some-of : {T : Type 0} (o : Option T) (P : T → Type 0) (x : T) → o ≡ Some x → IfSome o P → P x
+some-of o P x e h = subst (λ o. IfSome o P) e h
 
 -- what holds if there is no value holds where there is none
-pub none_of : {T : Type 0} (o : Option T) (P : Type 0) → o ≡ None → IfNone o P → P
-none_of o P e h = subst (λ o. IfNone o P) e h
+pub none-of : {T : Type 0} (o : Option T) (P : Type 0) → o ≡ None → IfNone o P → P
+none-of o P e h = subst (λ o. IfNone o P) e h

@@ -261,6 +261,6 @@ from-note s key bytes Whole = tt
 from-note s key bytes Unknown = tt
 
 -- no frame that is taken is noted as refused for want of memory
-pub take_note : (port : ℕ) (bytes : List ℕ) (s : SessionsData) → IsNote (take_step port bytes s).1.0
+pub take-note : (port : ℕ) (bytes : List ℕ) (s : SessionsData) → IsNote (take_step port bytes s).1.0
 unfolding take_step
-take_note port bytes s = from-note s (port_key port) bytes (meaning_of s.role port)
+take-note port bytes s = from-note s (port_key port) bytes (meaning_of s.role port)

@@ -15,13 +15,13 @@ use Rattle.frag_wire.specs.declared.message.Message.{Message}
 use Rattle.frag_wire.proofs.ReadingLemmas.{reading-spelled, reading-refused}
 
 -- a message that the bytes spell, or else a fault that they have, is what they are read as
-pub read_is : (params : FragParams) (way : Side) (bytes : List ℕ) (read : Result Message WireFault)
+pub read-is : (params : FragParams) (way : Side) (bytes : List ℕ) (read : Result Message WireFault)
     → IfOk read (λ message. Spells params way message (payload_in message (octets bytes)) bytes)
     → IfErr read (λ fault. IsWireFault params way bytes fault)
     → read ≡ reading_in params.mode way bytes
-read_is params way bytes (Ok message) h k =
+read-is params way bytes (Ok message) h k =
     sym (reading-spelled params.mode way message (payload_in message (octets bytes)) bytes h).0
-read_is params way bytes (Err fault) h k = sym (reading-refused params.mode way fault bytes k)
+read-is params way bytes (Err fault) h k = sym (reading-refused params.mode way fault bytes k)
 
 -- what is read is an answer to what an end sends
 pub is_answer : (role : Role) (params : FragParams) (bytes : List ℕ) (message : Message)

@@ -29,12 +29,12 @@ use Rattle.sessions.specs.Reception.{is_remnant, receiver_fired, reception_taken
 use Rattle.sessions.specs.declared.receivers.Receiver.{Receiver}
 use Rattle.sessions.specs.declared.receivers.Receiver.TheVariants.{NoAck, AckAlways, AckOnError}
 
-pub taken_mode : (message : Message) (payload : List Bool) (r : Receiver)
+pub taken-mode : (message : Message) (payload : List Bool) (r : Receiver)
     → receiver_mode (receiver_taken message payload r).0 ≡ receiver_mode r
 unfolding receiver_taken
-taken_mode message payload (NoAck r) = refl
-taken_mode message payload (AckAlways r) = refl
-taken_mode message payload (AckOnError r) = refl
+taken-mode message payload (NoAck r) = refl
+taken-mode message payload (AckAlways r) = refl
+taken-mode message payload (AckOnError r) = refl
 
 armed-ticks : (ticks : TimerTicks) (after : ReceiverPhase)
     → is_armed (receiver_ticks ticks after) ≡ receiver_timed after
@@ -64,27 +64,27 @@ left-remnant ticks before after note left true r h =
     rw r (left-if ticks before after left (same_receiver_phase before after) refl h)
 left-remnant ticks before after note left false r h = rw r (armed-ticks ticks after)
 
-pub received_timed : (ticks : TimerTicks) (before after : ReceiverPhase) (note : Note)
+pub received-timed : (ticks : TimerTicks) (before after : ReceiverPhase) (note : Note)
     (left : Option ℕ) → is_armed left ≡ receiver_timed before
     → is_armed (receiver_left ticks before after note left) ≡ receiver_timed after
-received_timed ticks before after note left h =
+received-timed ticks before after note left h =
     left-remnant ticks before after note left (is_remnant note) refl h
 
 -- a message was taken
-pub taken_keeps : (ticks : TimerTicks) (message : Message) (payload : List Bool)
+pub taken-keeps : (ticks : TimerTicks) (message : Message) (payload : List Bool)
     (old new : Receiver) (left left' : Option ℕ) (note : Note)
     → reception_taken ticks message payload
     (record { receiver = old; left = left }) ≡ (record { receiver = new; left = left' }, note)
     → (role : Role) (acked : Bool) → IsReceiving role acked old left
     → IsReceiving role acked new left'
 unfolding reception_taken
-taken_keeps ticks message payload old new left left' note e role acked h =
+taken-keeps ticks message payload old new left left' note e role acked h =
     let r = ap (λ step. step.0.receiver) e in
     let l = ap (λ step. step.0.left) e in record {
-      row = ap receiver_mode (sym r) ∙ taken_mode message payload old ∙ h.row;
+      row = ap receiver_mode (sym r) ∙ taken-mode message payload old ∙ h.row;
       timed =
           ap is_armed (sym l)
-          ∙ received_timed ticks (receiver_phase old)
+          ∙ received-timed ticks (receiver_phase old)
           (receiver_phase (receiver_taken message payload old).0)
           (receiver_taken message payload old).1 left h.timed
           ∙ ap (λ x. receiver_timed (receiver_phase x)) r;
@@ -108,9 +108,9 @@ answered-mode (AckAlways r) = refl
 answered-mode (AckOnError r) = refl
 
 -- a receiver that gave an answer still has its mode, and its timer runs where it should
-pub answered_keeps : (role : Role) (acked : Bool) (r : Receiver) (left : Option ℕ)
+pub answered-keeps : (role : Role) (acked : Bool) (r : Receiver) (left : Option ℕ)
     → IsReceiving role acked r left → IsReceiving role acked (receiver_answered r) left
-answered_keeps role acked r left h =
+answered-keeps role acked r left h =
     record {
       row = answered-mode r ∙ h.row;
       timed = h.timed
@@ -143,9 +143,9 @@ fired-mode phase.Finished (AckAlways r) = refl
 fired-mode phase.Finished (AckOnError r) = refl
 
 -- a tick neither arms nor disarms a timer
-pub ticked_armed : (left : Option ℕ) → is_armed (ticked left) ≡ is_armed left
-ticked_armed None = refl
-ticked_armed (Some left) = refl
+pub ticked-armed : (left : Option ℕ) → is_armed (ticked left) ≡ is_armed left
+ticked-armed None = refl
+ticked-armed (Some left) = refl
 
 fired-if : (role : Role) (acked : Bool) (r : Receiver) (left : Option ℕ) (due : Bool)
     → is_armed left ≡ receiver_timed (receiver_phase r)
@@ -161,14 +161,14 @@ fired-if role acked r left true t m =
 fired-if role acked r left false t m = record { row = m; timed = t }
 
 -- a receiver still has its mode after a tick, and its timer runs where it should, due or not
-pub ticked_keeps : (role : Role) (acked : Bool) (old new : Receiver) (left left' : Option ℕ)
+pub ticked-keeps : (role : Role) (acked : Bool) (old new : Receiver) (left left' : Option ℕ)
     (due : Bool) → new ≡ (if due then receiver_fired (receiver_phase old) old else old)
     → due ≡ is_due (ticked left) → left' ≡ unless_due (ticked left)
     → IsReceiving role acked old left → IsReceiving role acked new left'
 unfolding unless_due
-ticked_keeps role acked old new left left' due n d l h =
+ticked-keeps role acked old new left left' due n d l h =
     rw (n, l, d)
-    (fired-if role acked old (ticked left) (is_due (ticked left)) (ticked_armed left ∙ h.timed)
+    (fired-if role acked old (ticked left) (is_due (ticked left)) (ticked-armed left ∙ h.timed)
     h.row)
 
 -- where nothing is due, nothing changes
@@ -191,8 +191,8 @@ still-aoe (aoe.Finished tiles last true) e = absurd cc
 still-aoe (aoe.Finished tiles last false) e = refl
 
 -- a receiver of which no answer is due is the same after giving one
-pub answered_still : (r : Receiver) → receiver_due r ≡ None → receiver_answered r ≡ r
+pub answered-still : (r : Receiver) → receiver_due r ≡ None → receiver_answered r ≡ r
 unfolding receiver_due receiver_answered
-answered_still (NoAck r) e = refl
-answered_still (AckAlways r) e = ap AckAlways (still-aa r e)
-answered_still (AckOnError r) e = ap AckOnError (still-aoe r e)
+answered-still (NoAck r) e = refl
+answered-still (AckAlways r) e = ap AckAlways (still-aa r e)
+answered-still (AckOnError r) e = ap AckOnError (still-aoe r e)

@@ -124,64 +124,64 @@ from-stands : (s t : aoe.AoeSenderData) → Stands s t → GoesOn (AckOnError s)
 from-stands s t h = record { params = h.params; mtu = h.mtu; bits = h.bits }
 
 -- a sender that gives its message keeps its parameters, its MTU and its bits
-pub sent_goes : (s : Sender) → GoesOn s (sender_sent s)
+pub sent-goes : (s : Sender) → GoesOn s (sender_sent s)
 unfolding sender_sent no_ack_step.sent aa_step.sent sent
-sent_goes (NoAck s) = record { params = refl; mtu = refl; bits = refl }
-sent_goes (AckAlways s) = record { params = refl; mtu = refl; bits = refl }
-sent_goes (AckOnError s) = record { params = refl; mtu = refl; bits = refl }
+sent-goes (NoAck s) = record { params = refl; mtu = refl; bits = refl }
+sent-goes (AckAlways s) = record { params = refl; mtu = refl; bits = refl }
+sent-goes (AckOnError s) = record { params = refl; mtu = refl; bits = refl }
 
 -- a sender that hears a message keeps its parameters, its MTU and its bits
-pub heard_goes : (message : Message) (s : Sender) → GoesOn s (sender_heard message s).0
+pub heard-goes : (message : Message) (s : Sender) → GoesOn s (sender_heard message s).0
 unfolding sender_heard aa_step.heard heard
-heard_goes message (NoAck s) = record { params = refl; mtu = refl; bits = refl }
-heard_goes message (AckAlways s) = record { params = refl; mtu = refl; bits = refl }
-heard_goes message (AckOnError s) = from-stands s _ (stands-heard_in message s s.state)
+heard-goes message (NoAck s) = record { params = refl; mtu = refl; bits = refl }
+heard-goes message (AckAlways s) = record { params = refl; mtu = refl; bits = refl }
+heard-goes message (AckOnError s) = from-stands s _ (stands-heard_in message s s.state)
 
 -- a sender whose retransmission timer is due keeps its parameters, its MTU and its bits
-pub retried_goes : (s : Sender) → GoesOn s (sender_retried s).0
+pub retried-goes : (s : Sender) → GoesOn s (sender_retried s).0
 unfolding sender_retried aa_step.retried retried
-retried_goes (NoAck s) = record { params = refl; mtu = refl; bits = refl }
-retried_goes (AckAlways s) = record { params = refl; mtu = refl; bits = refl }
-retried_goes (AckOnError s) = from-stands s _ (stands-retried_in s s.state)
+retried-goes (NoAck s) = record { params = refl; mtu = refl; bits = refl }
+retried-goes (AckAlways s) = record { params = refl; mtu = refl; bits = refl }
+retried-goes (AckOnError s) = from-stands s _ (stands-retried_in s s.state)
 
 -- a sender that is told to abort keeps its parameters, its MTU and its bits
-pub aborted_goes : (s : Sender) → GoesOn s (sender_aborted s).0
+pub aborted-goes : (s : Sender) → GoesOn s (sender_aborted s).0
 unfolding sender_aborted no_ack_step.aborted aa_step.aborted aborted
-aborted_goes (NoAck s) = record { params = refl; mtu = refl; bits = refl }
-aborted_goes (AckAlways s) = record { params = refl; mtu = refl; bits = refl }
-aborted_goes (AckOnError s) = from-stands s _ (stands-aborted_in s s.state)
+aborted-goes (NoAck s) = record { params = refl; mtu = refl; bits = refl }
+aborted-goes (AckAlways s) = record { params = refl; mtu = refl; bits = refl }
+aborted-goes (AckOnError s) = from-stands s _ (stands-aborted_in s s.state)
 
 -- a session that begins is sending, and a message is due
-pub begun_params : (m : FragMode) (params : FragParams) (mtu : ℕ) (last : LastTile)
+pub begun-params : (m : FragMode) (params : FragParams) (mtu : ℕ) (last : LastTile)
     (bits : List Bool) → sender_params (sender_begun m params mtu last bits) ≡ params
 unfolding sender_begun aoe_step.begun
-begun_params mode.NoAck params mtu last bits = refl
-begun_params mode.AckAlways params mtu last bits = refl
-begun_params mode.AckOnError params mtu last bits = refl
+begun-params mode.NoAck params mtu last bits = refl
+begun-params mode.AckAlways params mtu last bits = refl
+begun-params mode.AckOnError params mtu last bits = refl
 
 -- in each mode a sender begins with the MTU that it is given
-pub begun_mtu : (m : FragMode) (params : FragParams) (mtu : ℕ) (last : LastTile) (bits : List Bool)
+pub begun-mtu : (m : FragMode) (params : FragParams) (mtu : ℕ) (last : LastTile) (bits : List Bool)
     → sender_mtu (sender_begun m params mtu last bits) ≡ mtu
 unfolding sender_begun aoe_step.begun
-begun_mtu mode.NoAck params mtu last bits = refl
-begun_mtu mode.AckAlways params mtu last bits = refl
-begun_mtu mode.AckOnError params mtu last bits = refl
+begun-mtu mode.NoAck params mtu last bits = refl
+begun-mtu mode.AckAlways params mtu last bits = refl
+begun-mtu mode.AckOnError params mtu last bits = refl
 
 -- in each mode a sender begins with the bits that it is given
-pub begun_bits : (m : FragMode) (params : FragParams) (mtu : ℕ) (last : LastTile) (bits : List Bool)
+pub begun-bits : (m : FragMode) (params : FragParams) (mtu : ℕ) (last : LastTile) (bits : List Bool)
     → sender_bits (sender_begun m params mtu last bits) ≡ bits
 unfolding sender_begun aoe_step.begun
-begun_bits mode.NoAck params mtu last bits = refl
-begun_bits mode.AckAlways params mtu last bits = refl
-begun_bits mode.AckOnError params mtu last bits = refl
+begun-bits mode.NoAck params mtu last bits = refl
+begun-bits mode.AckAlways params mtu last bits = refl
+begun-bits mode.AckOnError params mtu last bits = refl
 
 -- in each mode a sender that begins is sending
-pub begun_phase : (m : FragMode) (params : FragParams) (mtu : ℕ) (last : LastTile)
+pub begun-phase : (m : FragMode) (params : FragParams) (mtu : ℕ) (last : LastTile)
     (bits : List Bool) → sender_phase (sender_begun m params mtu last bits) ≡ phase.Sending
 unfolding sender_begun sender_phase aoe_step.begun aoe_step.sender_phase aoe_step.phase_in
-begun_phase mode.NoAck params mtu last bits = refl
-begun_phase mode.AckAlways params mtu last bits = refl
-begun_phase mode.AckOnError params mtu last bits = refl
+begun-phase mode.NoAck params mtu last bits = refl
+begun-phase mode.AckAlways params mtu last bits = refl
+begun-phase mode.AckOnError params mtu last bits = refl
 
 due-aoe : (s : aoe.AoeSenderData) (numbers : List ℕ)
     → option_map (λ due. written s.params due.0 due.1)
@@ -191,13 +191,13 @@ due-aoe s [] e = absurd cc
 due-aoe s (number ∷ numbers) e = absurd cc
 
 -- in each mode a sender that begins has a message due
-pub begun_due : (m : FragMode) (params : FragParams) (mtu : ℕ) (last : LastTile) (bits : List Bool)
+pub begun-due : (m : FragMode) (params : FragParams) (mtu : ℕ) (last : LastTile) (bits : List Bool)
     → sender_due (sender_begun m params mtu last bits) ≡ None → ⊥
 unfolding sender_begun sender_due aoe_step.begun aoe_step.due_bytes aoe_step.due_message
     no_ack_step.due_message no_ack_step.due_in aa_step.due_message aa_step.due_in
-begun_due mode.NoAck params mtu last bits e = absurd cc
-begun_due mode.AckAlways params mtu last bits e = absurd cc
-begun_due mode.AckOnError params mtu last bits e = due-aoe _ _ e
+begun-due mode.NoAck params mtu last bits e = absurd cc
+begun-due mode.AckAlways params mtu last bits e = absurd cc
+begun-due mode.AckOnError params mtu last bits e = due-aoe _ _ e
 
 -- where nothing is due, nothing changes
 still-no_ack : (s : no_ack.NoAckSenderData) (state : NoAckSenderState) → s.state ≡ state
@@ -228,14 +228,14 @@ still-aoe s aoe.Closing e = absurd cc
 still-aoe s aoe.Quiet e = refl
 
 -- a sender of which nothing is due is the same after giving a message
-pub sent_still : (s : Sender) → sender_due s ≡ None → sender_sent s ≡ s
+pub sent-still : (s : Sender) → sender_due s ≡ None → sender_sent s ≡ s
 unfolding sender_due sender_sent no_ack_step.due_message aa_step.due_message aoe_step.due_bytes
     aoe_step.due_message no_ack_step.sent aa_step.sent sent
-sent_still (NoAck s) e =
+sent-still (NoAck s) e =
     ap (λ state. NoAck (record s { state = state })) (still-no_ack s s.state refl e)
-sent_still (AckAlways s) e =
+sent-still (AckAlways s) e =
     ap (λ state. AckAlways (record s { state = state })) (still-aa s s.state e)
-sent_still (AckOnError s) e =
+sent-still (AckOnError s) e =
     ap (λ state. AckOnError (record s { state = state })) (still-aoe s s.state e)
 
 -- a sender that isn't answered leaves Waiting
@@ -289,9 +289,9 @@ leaves-no_ack na.Closing w = absurd cc
 leaves-no_ack na.Quiet w = absurd cc
 
 -- where a sender that waited retries, its timer, taken out before, is armed just where it should be
-pub retried_leaves : (s : Sender) → sender_phase s ≡ phase.Waiting
+pub retried-leaves : (s : Sender) → sender_phase s ≡ phase.Waiting
     → Leaves (sender_phase (sender_retried s).0)
 unfolding sender_phase sender_retried aa_step.retried retried aoe_step.sender_phase
-retried_leaves (NoAck s) w = leaves-no_ack s.state w
-retried_leaves (AckAlways s) w = leaves-aa s (aa.last_index s) s.state w
-retried_leaves (AckOnError s) w = leaves-aoe s s.state w
+retried-leaves (NoAck s) w = leaves-no_ack s.state w
+retried-leaves (AckAlways s) w = leaves-aa s (aa.last_index s) s.state w
+retried-leaves (AckOnError s) w = leaves-aoe s s.state w

@@ -24,51 +24,51 @@ use Rattle.sessions.specs.declared.senders.Sender.{Sender}
 use Rattle.sessions.specs.declared.moves.Running.{Running}
 
 -- the timer runs where it should, after a step as before
-pub left_timed : (ticks : TimerTicks) (before after : SenderPhase) (left : Option ℕ)
+pub left-timed : (ticks : TimerTicks) (before after : SenderPhase) (left : Option ℕ)
     → is_armed left ≡ sender_timed before
     → is_armed (sender_left ticks before after left) ≡ sender_timed after
 unfolding sender_left
-left_timed ticks Sending Sending left h = h
-left_timed ticks Sending Waiting left h = refl
-left_timed ticks Sending Closing left h = refl
-left_timed ticks Sending Quiet left h = refl
-left_timed ticks Waiting Sending left h = refl
-left_timed ticks Waiting Waiting left h = h
-left_timed ticks Waiting Closing left h = refl
-left_timed ticks Waiting Quiet left h = refl
-left_timed ticks Closing Sending left h = refl
-left_timed ticks Closing Waiting left h = refl
-left_timed ticks Closing Closing left h = h
-left_timed ticks Closing Quiet left h = refl
-left_timed ticks Quiet Sending left h = refl
-left_timed ticks Quiet Waiting left h = refl
-left_timed ticks Quiet Closing left h = refl
-left_timed ticks Quiet Quiet left h = h
+left-timed ticks Sending Sending left h = h
+left-timed ticks Sending Waiting left h = refl
+left-timed ticks Sending Closing left h = refl
+left-timed ticks Sending Quiet left h = refl
+left-timed ticks Waiting Sending left h = refl
+left-timed ticks Waiting Waiting left h = h
+left-timed ticks Waiting Closing left h = refl
+left-timed ticks Waiting Quiet left h = refl
+left-timed ticks Closing Sending left h = refl
+left-timed ticks Closing Waiting left h = refl
+left-timed ticks Closing Closing left h = h
+left-timed ticks Closing Quiet left h = refl
+left-timed ticks Quiet Sending left h = refl
+left-timed ticks Quiet Waiting left h = refl
+left-timed ticks Quiet Closing left h = refl
+left-timed ticks Quiet Quiet left h = h
 
 -- a new receiver has the mode in which the other end sends, and no timer
-pub new_receives : (role : Role) (acked : Bool)
+pub new-receives : (role : Role) (acked : Bool)
     → IsReceiving role acked (new_receiver (sending_of (other_role role) acked).1.mode) None
 unfolding new_receiver receiver_phase aoe_phase aoe_empty
-new_receives Device true = record { row = refl; timed = refl }
-new_receives Device false = record { row = refl; timed = refl }
-new_receives Gateway true = record { row = refl; timed = refl }
-new_receives Gateway false = record { row = refl; timed = refl }
+new-receives Device true = record { row = refl; timed = refl }
+new-receives Device false = record { row = refl; timed = refl }
+new-receives Gateway true = record { row = refl; timed = refl }
+new-receives Gateway false = record { row = refl; timed = refl }
 
 -- a new receiver of the mode in which the other end sends, with no timer armed, is one of this end
-pub new_is : (role other : Role) (acked : Bool) (way : ℕ × FragParams) (receiver : Receiver)
+pub new-is : (role other : Role) (acked : Bool) (way : ℕ × FragParams) (receiver : Receiver)
     (left : Option ℕ) → other ≡ other_role role → way ≡ sending_of other acked
     → receiver ≡ new_receiver way.1.mode → left ≡ None → IsReceiving role acked receiver left
-new_is role other acked way receiver left o w r l = rw (l, r, w, o) (new_receives role acked)
+new-is role other acked way receiver left o w r l = rw (l, r, w, o) (new-receives role acked)
 
 -- the timer of the session is due, by where it stands
-pub fired_quiet : (ticks : TimerTicks) (running : Option Running) (session : Running)
+pub fired-quiet : (ticks : TimerTicks) (running : Option Running) (session : Running)
     → running ≡ Some session → sender_phase session.sender ≡ Quiet
     → fired_session ticks (session_of running None) ≡ (None, None)
 unfolding session_fired fired_in
-fired_quiet ticks running session e p = rw (e, p) refl
+fired-quiet ticks running session e p = rw (e, p) refl
 
 -- a timer that is due changes nothing of a session that is sending, and reports nothing
-pub fired_sending : (ticks : TimerTicks) (running : Option Running) (session : Running)
+pub fired-sending : (ticks : TimerTicks) (running : Option Running) (session : Running)
     (left : Option ℕ) → running ≡ Some session → sender_phase session.sender ≡ Sending → left ≡ None
     → fired_session ticks
     (session_of running None) ≡ (
@@ -77,10 +77,10 @@ pub fired_sending : (ticks : TimerTicks) (running : Option Running) (session : R
       None,
     )
 unfolding session_fired fired_in
-fired_sending ticks running session left e p l = rw (e, p, l) refl
+fired-sending ticks running session left e p l = rw (e, p, l) refl
 
 -- a timer that is due changes nothing of a session that is closing, and reports nothing
-pub fired_closing : (ticks : TimerTicks) (running : Option Running) (session : Running)
+pub fired-closing : (ticks : TimerTicks) (running : Option Running) (session : Running)
     (left : Option ℕ) → running ≡ Some session → sender_phase session.sender ≡ Closing → left ≡ None
     → fired_session ticks
     (session_of running None) ≡ (
@@ -89,10 +89,10 @@ pub fired_closing : (ticks : TimerTicks) (running : Option Running) (session : R
       None,
     )
 unfolding session_fired fired_in
-fired_closing ticks running session left e p l = rw (e, p, l) refl
+fired-closing ticks running session left e p l = rw (e, p, l) refl
 
 -- where the timer of a session that waits is due, its sender retries, and a failure is reported
-pub fired_waiting : (ticks : TimerTicks) (running : Option Running) (session : Running)
+pub fired-waiting : (ticks : TimerTicks) (running : Option Running) (session : Running)
     (sender : Sender) (heard : Heard) (left : Option ℕ) (report : Option Report)
     → running ≡ Some session → sender_phase session.sender ≡ Waiting
     → sender_retried session.sender ≡ (sender, heard)
@@ -105,4 +105,4 @@ pub fired_waiting : (ticks : TimerTicks) (running : Option Running) (session : R
       report,
     )
 unfolding session_fired fired_in session_moved
-fired_waiting ticks running session sender heard left report e p h r l = rw (e, p, h, r, l, p) refl
+fired-waiting ticks running session sender heard left report e p h r l = rw (e, p, h, r, l, p) refl

@@ -20,7 +20,7 @@ use Rattle.sessions.specs.Session.{reported}
 use Rattle.sessions.specs.Steps.{tick_step, ticked_report, fired_session, or_else, reports_from}
 use Rattle.sessions.specs.declared.moves.Running.{Running}
 use Rattle.sessions.specs.declared.receivers.Receiver.{Receiver}
-use Rattle.sessions.proofs.ReceiverLemmas.{ticked_armed}
+use Rattle.sessions.proofs.ReceiverLemmas.{ticked-armed}
 
 -- a receiver
 abbrev fired-if : Bool → Receiver → Receiver
@@ -116,16 +116,16 @@ ticked-report ticks running left d =
 
 -- where the session's timer is due with a tick, the session that is left and the report are those
 -- that the timer leads to
-pub due_ticks : (ticks : TimerTicks) (key : SessionKey) (running new : Option Running)
+pub due-ticks : (ticks : TimerTicks) (key : SessionKey) (running new : Option Running)
     (left left' : Option ℕ) (report : Option Report) → is_due (ticked left) ≡ true
     → fired_session ticks (session_of running None) ≡ (session_of new left', report)
     → Ticks ticks key (session_of running left) (session_of new left') report
-due_ticks ticks key None new left left' report d e = record {
+due-ticks ticks key None new left left' report d e = record {
   senders = changed-none key (λ session. (session_ticked ticks session).0)
       ∙ ap (λ step. entry key step.0) e;
   reports = reports-none ticks key ∙ ap (λ step. step.1) e;
 }
-due_ticks ticks key (Some running) new left left' report d e = record {
+due-ticks ticks key (Some running) new left left' report d e = record {
   senders = changed-some key (λ session. (session_ticked ticks session).0) (shown running left)
       ∙ ap (λ step. entry key step.0) (ticked-due ticks running left d)
       ∙ ap (λ step. entry key step.0) e;
@@ -138,37 +138,37 @@ unfolding unless_due
 unless-not left d = rw d refl
 
 -- where the session's timer isn't due with a tick, only that timer changes, and nothing is reported
-pub not_ticks : (ticks : TimerTicks) (key : SessionKey) (running : Option Running)
+pub not-ticks : (ticks : TimerTicks) (key : SessionKey) (running : Option Running)
     (left left' : Option ℕ) → is_due (ticked left) ≡ false → left' ≡ unless_due (ticked left)
     → Ticks ticks key (session_of running left) (session_of running left') None
-not_ticks ticks key None left left' d l = record {
+not-ticks ticks key None left left' d l = record {
   senders = changed-none key (λ session. (session_ticked ticks session).0);
   reports = reports-none ticks key;
 }
-not_ticks ticks key (Some running) left left' d l =
+not-ticks ticks key (Some running) left left' d l =
     ticks-some ticks key (shown running left) (Some (shown running left')) heard.Nothing None
     (ticked-not ticks running left d
     ∙ ap (λ x. (Some (shown running x), heard.Nothing)) (sym (l ∙ unless-not (ticked left) d)))
     refl
 
 -- a session whose timer isn't due with a tick is still the end's, its timer where it should run
-pub not_keeps : (role : Role) (params : EndParams) (running : Option Running)
+pub not-keeps : (role : Role) (params : EndParams) (running : Option Running)
     (left left' : Option ℕ) → is_due (ticked left) ≡ false → left' ≡ unless_due (ticked left)
     → AreRunning role params running left → AreRunning role params running left'
-not_keeps role params None left left' d l h = l ∙ unless-not (ticked left) d ∙ ap ticked h
-not_keeps role params (Some running) left left' d l h =
+not-keeps role params None left left' d l h = l ∙ unless-not (ticked left) d ∙ ap ticked h
+not-keeps role params (Some running) left left' d l h =
     record {
       row = h.row;
       mtu = h.mtu;
       timed = ap is_armed (l ∙ unless-not (ticked left) d)
-          ∙ ticked_armed left ∙ h.timed;
+          ∙ ticked-armed left ∙ h.timed;
     }
 
 -- a timer that is due with a tick isn't armed any more
-pub due_gone : (left left' : Option ℕ) → is_due (ticked left) ≡ true
+pub due-gone : (left left' : Option ℕ) → is_due (ticked left) ≡ true
     → left' ≡ unless_due (ticked left) → left' ≡ None
 unfolding unless_due
-due_gone left left' d l = rw (l, d) refl
+due-gone left left' d l = rw (l, d) refl
 
 each-two : (role : Role) (answering silent answering' silent' : Reception)
     → reception_ticked answering ≡ answering' → reception_ticked silent ≡ silent'
@@ -178,7 +178,7 @@ each-two role answering silent answering' silent' a s = rw (a, s) refl
 
 -- a tick of an end is one of its session and its timer, whose report it makes, and one of each
 -- receiver and its timer
-pub tick_is : (role : Role) (params : EndParams) (running running' : Option Running)
+pub tick-is : (role : Role) (params : EndParams) (running running' : Option Running)
     (answering answering' silent silent' : Receiver) (next : ℕ) (clocks clocks' : ClocksData)
     (first second : Bool) (report : Option Report)
     → Ticks params.ticks (out_key role params.acked) (session_of running clocks.sending)
@@ -193,7 +193,7 @@ pub tick_is : (role : Role) (params : EndParams) (running running' : Option Runn
       report,
     )
 unfolding tick_step
-tick_is role params running running' answering answering' silent silent' next clocks clocks' first
+tick-is role params running running' answering answering' silent silent' next clocks clocks' first
     second report t a fa la s fs ls =
     let both =
     each-two role (record { receiver = answering; left = clocks.answering })

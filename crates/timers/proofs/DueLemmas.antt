@@ -8,7 +8,7 @@ use Rattle.std.proofs.lemmas.Bool.{eqb-true, eq-eqb}
 use Rattle.std.specs.List.{position_from}
 use Rattle.timers.specs.Timers.{ticked, is_due, tick_step, first_due, without}
 use Rattle.timers.specs.Laws.{ticks_pass}
-use Rattle.timers.proofs.TimersLemmas.{first_due_from_zero}
+use Rattle.timers.proofs.TimersLemmas.{first_due-from-zero}
 
 cond-none : (b : Bool) (n : ℕ) (o : Option ℕ) → cond b (Some n) o ≡ None → (b ≡ false) × (o ≡ None)
 cond-none true n o e = absurd (cc)
@@ -26,7 +26,7 @@ none-from (x ∷ xs) start e (suc key) =
 -- where none is found, none is due
 pub none_due : (timers : List (Option ℕ)) → first_due timers ≡ None → (key : ℕ)
     → is_due (get_or timers key None) ≡ false
-none_due timers e key = none-from timers 0 (first_due_from_zero timers ∙ e) key
+none_due timers e key = none-from timers 0 (first_due-from-zero timers ∙ e) key
 
 -- place i is due, and none before it
 pub record IsLowest (timers : List (Option ℕ)) (i : ℕ) : Type 0 where
@@ -69,7 +69,7 @@ lowest-from (x ∷ xs) start key e =
 pub lowest : (timers : List (Option ℕ)) (key : ℕ) → first_due timers ≡ Some key
     → IsLowest timers key
 lowest timers key e =
-    let r = lowest-from timers 0 key (first_due_from_zero timers ∙ e) in
+    let r = lowest-from timers 0 key (first_due-from-zero timers ∙ e) in
     let same : r.0 ≡ key = omega (arith, r.1.0) in
     subst (λ n. IsLowest timers n) same r.1.1
 
@@ -95,13 +95,13 @@ due_at_its_tick timers key t n h =
     )
 
 -- a key that is taken out isn't due
-pub without_own : (timers : List (Option ℕ)) (key : ℕ)
+pub without-own : (timers : List (Option ℕ)) (key : ℕ)
     → is_due (get_or (without timers (Some key)) key None) ≡ false
-without_own [] key = refl
-without_own (x ∷ xs) zero = refl
-without_own (x ∷ xs) (suc key) = without_own xs key
+without-own [] key = refl
+without-own (x ∷ xs) zero = refl
+without-own (x ∷ xs) (suc key) = without-own xs key
 
 -- each other key is as before
-pub without_other : (timers : List (Option ℕ)) (key other : ℕ) → other ≢ key →
+pub without-other : (timers : List (Option ℕ)) (key other : ℕ) → other ≢ key →
     get_or (without timers (Some key)) other None ≡ get_or timers other None
-without_other timers key other h = get_or-set_other timers key other None None h
+without-other timers key other h = get_or-set_other timers key other None None h

@@ -13,12 +13,12 @@ use Rattle.std.specs.List.{sum_by, position_from}
 use Rattle.timers.specs.Timers.{ticked, is_due, tick_step, first_due}
 use Rattle.timers.specs.Wheel.{left, place_at, IsAhead, IsFiled, Begins, IsFiledFrom, IsKeyFiled}
 use Rattle.timers.specs.Wheel.{IsIndex, IsPlaceOf, HasCome, IsElsewhere, IsFiledAnew}
-use Rattle.timers.proofs.TimersLemmas.{first_due_from_zero}
+use Rattle.timers.proofs.TimersLemmas.{first_due-from-zero}
 
 -- a turn has some ticks
-pub turn_pos : (level : ℕ) → 0 < 32 ^ level
-turn_pos zero = omega arith
-turn_pos (suc level) = let up = turn_pos level in grind (arith, up)
+pub turn-pos : (level : ℕ) → 0 < 32 ^ level
+turn-pos zero = omega arith
+turn-pos (suc level) = let up = turn-pos level in grind (arith, up)
 
 -- the turn after this one begins at the next tick or later, and where it has come then, it begins
 -- then
@@ -46,7 +46,7 @@ next-turn now s n pos before here =
 -- a place ahead opens before the deadline, which is to come
 pub ahead-lt : (now at place : ℕ) → IsAhead now at place → now < at
 ahead-lt now at place a =
-    let pos = turn_pos a.level in
+    let pos = turn-pos a.level in
     let low = (div-lt_iff_lt-mul pos).0 a.ahead in
     let high = (le-div_iff_mul-le pos).0 a.in_time in
     omega (arith, low, high)
@@ -69,7 +69,7 @@ ahead-later now at place member out a =
             },
           ))
       | inr here ↦
-          let turn = next-turn now (32 ^ a.level) a.number (turn_pos a.level) a.ahead here in
+          let turn = next-turn now (32 ^ a.level) a.number (turn-pos a.level) a.ahead here in
           inr (
             out,
             record {
@@ -342,7 +342,7 @@ pub first-none : (now : ℕ) (ds : List (Option ℕ)) (ms : List Bool) (ps : Lis
     → IsIndex now 4 ds ms ps →
     ((key : ℕ) → get_or ms key false ≡ false) → first_due (map (left now) ds) ≡ None
 first-none now ds ms ps i h =
-    sym (first_due_from_zero (map (left now) ds))
+    sym (first_due-from-zero (map (left now) ds))
     ∙ none-found (map (left now) ds) 0 (λ key. key-out now ds ms ps i key (h key))
 
 length-left : (now : ℕ) (ds : List (Option ℕ)) → length (map (left now) ds) ≡ length ds
@@ -362,7 +362,7 @@ first-some now ds ms ps key i inside e below =
     let due = ap is_due (left-at now ds key)
     ∙ due-in now (get_or ds key None) (get_or ms key false) (get_or ps (128 + key) 0) e
     (i.at key inside) in
-    sym (first_due_from_zero (map (left now) ds))
+    sym (first_due-from-zero (map (left now) ds))
     ∙ (lowest-found (map (left now) ds) 0 key len due
     (λ lower h. key-out now ds ms ps i lower (below lower h)) ∙ ap Some (from_zero key))
 

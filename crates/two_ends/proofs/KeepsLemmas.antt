@@ -39,7 +39,7 @@ use Rattle.two_ends.specs.Safe.{IsHeadline, Headline, AlwaysSafe}
 use Rattle.two_ends.proofs.ChainKept.{chain-start, chain-step}
 use Rattle.two_ends.proofs.EndsKept.{ends-start, ends-step}
 use Rattle.two_ends.proofs.KeyLemmas.{same_key-refl, same_key-true}
-use Rattle.two_ends.proofs.LaneSteps.{joins-step, WorldKeeps, steps_of_a_world, IsLaneRun}
+use Rattle.two_ends.proofs.LaneSteps.{joins-step, WorldKeeps, steps-of-a-world, IsLaneRun}
 use Rattle.two_ends.proofs.LaneSteps.{lane-runs}
 use Rattle.two_ends.proofs.LedLemmas.{some-weaken}
 use Rattle.two_ends.proofs.MarksKept.{IsBegunOf, IsBegun, ArePlaced, marks-start, marks-step}
@@ -457,5 +457,5 @@ always-of joins arrived params events fits n =
 -- the world's steps are its lanes' steps
 pub stepped-run : StepsOfAWorld
 stepped-run params events fits key event =
-    steps_of_a_world params key (run events (start params)) event
+    steps-of-a-world params key (run events (start params)) event
     (run-start-keeps params events fits.within.0 (bytes-of-fits params events fits)).world

@@ -10,7 +10,7 @@ use Rattle.schc_ids.specs.declared.ends.Direction.TheVariants as way
 use Rattle.tiles_bitmap.specs.Places.{Among}
 use Rattle.sessions.specs.Keys.{SessionKey, Entry, found, entry, without, put_in}
 use Rattle.sessions.specs.Keys as at_end
-use Rattle.sessions.proofs.KeyLemmas.{same_key_refl, same_key_true, found_own, found_other}
+use Rattle.sessions.proofs.KeyLemmas.{same_key_refl, same_key_true, found_own, found-other}
 use Rattle.event_data.specs.Records.{FrameData}
 use Rattle.lanes.specs.Lane.{Msg, Begun}
 use Rattle.lanes.proofs.ListLemmas.{among-after, all-append}
@@ -107,7 +107,7 @@ other-first id key x y put xs false e f k =
 pub found-put_other : {A : Type 0} (id key : SessionKey) (x : A) (xs : List (Entry A))
     → at_end.same_key id key ≡ false → found id (put_in key (Some x) xs) ≡ found id xs
 unfolding put_in found
-found-put_other id key x [] e = found_other id key (Some x) e
+found-put_other id key x [] e = found-other id key (Some x) e
 found-put_other id key x (y ∷ xs) e =
     other-first id key x y (put_in key (Some x) xs) xs (at_end.same_key key y.key) e refl
     (found-put_other id key x xs e)

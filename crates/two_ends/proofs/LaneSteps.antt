@@ -429,9 +429,9 @@ makes params key h (Allow role number) k =
 
 -- an event of a world is on each key's lane the steps of its events there, each possible
 -- where it comes
-pub steps_of_a_world : (params : EndParams) (key : Key) (h : History) (event : Event)
+pub steps-of-a-world : (params : EndParams) (key : Key) (h : History) (event : Event)
     → WorldKeeps params h → IsStepped params key h event
-steps_of_a_world params key h event k = let m = makes params key h event k in
+steps-of-a-world params key h event k = let m = makes params key h event k in
     record { same = m.same; possible = m.possible }
 
 -- A run of the world.

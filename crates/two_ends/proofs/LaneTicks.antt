@@ -15,7 +15,7 @@ use Rattle.sessions.specs.Keys as at_end
 use Rattle.sessions.specs.Reception.{Reception, reception_ticked}
 use Rattle.sessions.specs.Session.{Session, session_ticked}
 use Rattle.sessions.specs.Steps.{tick_step as sessions_tick, aborted_from}
-use Rattle.sessions.proofs.KeyLemmas.{found_other}
+use Rattle.sessions.proofs.KeyLemmas.{found-other}
 use Rattle.lanes.specs.Events as lane
 use Rattle.lanes.specs.Events.{LaneEvent, Possible}
 use Rattle.lanes.specs.Lane.{Lane, LaneReport}
@@ -215,7 +215,7 @@ none-apart : (params : EndParams) (role : Role) (id : SessionKey) (s : SessionsD
     → AreSessions role params s → at_end.same_key id (out_key role params.acked) ≡ false
     → found id s.senders ≡ None
 none-apart params role id s k n = ap (found id) k.senders
-    ∙ found_other id (out_key role params.acked) k.session n
+    ∙ found-other id (out_key role params.acked) k.session n
 
 -- the key by which an end sends is that of its role and of the world's parameters
 pub own-same : (params : EndParams) (role : Role) (h : History) → EndsKept params h.world

@@ -14,8 +14,8 @@ Led R find (x ∷ xs) [] = ⊥
 Led R find (x ∷ xs) (l ∷ ls) = IsSomeAnd (find l) (R x) × Led R find xs ls
 
 -- a value that is there is one value
-pub some_injective : {A : Type 0} {x y : A} → Some x ≡ Some y → x ≡ y
-some_injective e = cc
+pub some-injective : {A : Type 0} {x y : A} → Some x ≡ Some y → x ≡ y
+some-injective e = cc
 
 -- the last item of a list is at the length of the rest
 pub slice_get-last : {A : Type 0} (xs : List A) (x : A)
@@ -68,7 +68,7 @@ pub led-first : {A L : Type 0} (R : A → HandedDown → Type 0) (find : L → O
 led-first R find [] ls x e h = absurd cc
 led-first R find (y ∷ xs) [] x e h = absurd h
 led-first R find (y ∷ xs) (l ∷ ls) x e h =
-    (l, refl, subst (λ v. IsSomeAnd (find l) (R v)) (some_injective e) h.0)
+    (l, refl, subst (λ v. IsSomeAnd (find l) (R v)) (some-injective e) h.0)
 
 -- there are as many labels as items
 pub led-length : {A L : Type 0} (R : A → HandedDown → Type 0) (find : L → Option HandedDown)
@@ -85,7 +85,7 @@ pub led-first_place : {A : Type 0} (R : A → HandedDown → Type 0) (find : ℕ
 led-first_place R find [] ls x e h = absurd cc
 led-first_place R find (y ∷ xs) [] x e h = absurd h
 led-first_place R find (y ∷ xs) (l ∷ ls) x e h =
-    subst (λ v. IsSomeAnd (find l) (R v)) (some_injective e) h.0
+    subst (λ v. IsSomeAnd (find l) (R v)) (some-injective e) h.0
 
 -- where there is no item, there is no label
 pub led-none : {A L : Type 0} (R : A → HandedDown → Type 0) (find : L → Option HandedDown)

@@ -32,8 +32,8 @@ use Rattle.sessions.specs.Steps.{choice, next_from, fragment_taken, fragment_rea
 use Rattle.sessions.specs.Steps.{answer_read, take_from, take_step, tick_step, aborted_from}
 use Rattle.sessions.specs.Steps.{abort_step, next_number, may_begin, may_begin_in}
 use Rattle.event_data.specs.declared.outcomes.EmitKind.{EmitKind}
-use Rattle.sessions.proofs.KeyLemmas.{found_own, put_own}
-use Rattle.sessions.proofs.PortLemmas.{found_in, put_answering, put_silent}
+use Rattle.sessions.proofs.KeyLemmas.{found_own, put-own}
+use Rattle.sessions.proofs.PortLemmas.{found-in, put-answering, put-silent}
 
 -- the form
 pub record AreSessions (role : Role) (params : EndParams) (s : SessionsData) : Type 0 where
@@ -72,7 +72,7 @@ pub in-is : (role : Role) (params : EndParams) (s : SessionsData) (acked : Bool)
     → (k : AreSessions role params s)
     → found (in_key role acked) s.receivers ≡ Some (pick acked k.answering k.silent)
 in-is role params s acked k = ap (found (in_key role acked)) k.receivers
-    ∙ found_in role acked k.answering k.silent
+    ∙ found-in role acked k.answering k.silent
 
 -- an end's sessions keep their form where another one, or none, is put by the end's own key
 pub with-session : (role : Role) (params : EndParams) (s : SessionsData) (key : SessionKey)
@@ -87,7 +87,7 @@ with-session role params s key new e k =
       its_params = k.its_params;
       senders =
           ap (λ i. put_in i new s.senders) e ∙ ap (put_in (out_key role params.acked) new) k.senders
-          ∙ put_own (out_key role params.acked) k.session new;
+          ∙ put-own (out_key role params.acked) k.session new;
       receivers = k.receivers;
     }
 
@@ -102,7 +102,7 @@ received role params s true new k =
       its_params = k.its_params;
       senders = k.senders;
       receivers = ap (put_in (in_key role true) (Some new)) k.receivers
-          ∙ put_answering role k.answering k.silent new;
+          ∙ put-answering role k.answering k.silent new;
     }
 received role params s false new k =
     record {
@@ -113,7 +113,7 @@ received role params s false new k =
       its_params = k.its_params;
       senders = k.senders;
       receivers = ap (put_in (in_key role false) (Some new)) k.receivers
-          ∙ put_silent role k.answering k.silent new;
+          ∙ put-silent role k.answering k.silent new;
     }
 
 -- an end's sessions keep their form where another receiver is put by a key of what the end takes
@@ -174,9 +174,9 @@ answers-are : (role : Role) (params : EndParams) (senders : List (Entry Session)
 unfolding answers_from
 answers-are role params senders a b rest k =
     answer-or role params senders (receptions role a b) true a (receiver_due a.receiver) _
-    (found_in role true a b) refl
+    (found-in role true a b) refl
     (answer-or role params senders (receptions role a b) false b (receiver_due b.receiver) rest
-    (found_in role false a b) refl k)
+    (found-in role false a b) refl k)
 
 -- what an end's sessions choose to give is such a choice, where they have their form
 pub choice-is : (role : Role) (params : EndParams) (s : SessionsData) → AreSessions role params s

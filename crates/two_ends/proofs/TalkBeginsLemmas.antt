@@ -22,7 +22,7 @@ use Rattle.sessions.specs.Senders.{sender_due}
 use Rattle.sessions.specs.Session.{Session, session_sent}
 use Rattle.sessions.specs.Steps.{with_session, messages_from, message_choice, busy_in, may_begin}
 use Rattle.sessions.specs.Steps.{may_begin_in, new_session, next_number}
-use Rattle.sessions.proofs.KeyLemmas.{put_own}
+use Rattle.sessions.proofs.KeyLemmas.{put-own}
 use Rattle.lanes.specs.Events.{CanBegin}
 use Rattle.lanes.specs.Lane.{LaneParams, Msg, last_item, place_of, padded_of}
 use Rattle.lanes.specs.Rounds.{Talk, new_talk, Ends, EndsWell}
@@ -131,7 +131,7 @@ first_began params w role form =
 begins-empty : (id : SessionKey) (new : Session) (end : EndData) → end.sessions.senders ≡ [] →
     put_in id (Some new) end.sessions.senders ≡ entry id (Some new)
 unfolding entry
-begins-empty id new end none = ap (put_in id (Some new)) none ∙ put_own id None (Some new)
+begins-empty id new end none = ap (put_in id (Some new)) none ∙ put-own id None (Some new)
 
 first-speaks : (params : EndParams) (w : History) (role : Role) (known : EditionData)
     (form : Packed) (r : Reception) (new : Session) → IsAlone params w role known form r →

@@ -20,8 +20,8 @@ use Rattle.sessions.specs.Steps.{with_session, with_reception, Choice, Idle, Giv
 use Rattle.sessions.specs.Steps.{GivesMessage, answer_or, answers_from, message_if, messages_from}
 use Rattle.sessions.specs.Steps.{message_choice, choice, fragment_taken, fragment_read}
 use Rattle.sessions.specs.Steps.{answer_taken, answer_read, busy_in, may_begin, new_session}
-use Rattle.sessions.proofs.KeyLemmas.{found_own, put_own}
-use Rattle.sessions.proofs.PortLemmas.{found_in, put_answering, put_silent}
+use Rattle.sessions.proofs.KeyLemmas.{found_own, put-own}
+use Rattle.sessions.proofs.PortLemmas.{found-in, put-answering, put-silent}
 use Rattle.lanes.specs.Rounds.{took_reading, heard_reading}
 use Rattle.end_core.specs.Data.{EndData}
 use Rattle.end_core.specs.End.{with_sessions, Turn, Serves, Sends, Begins, Rests, queue_turn}
@@ -141,7 +141,7 @@ pub speaks-sent : (id : SessionKey) (session new : Session) (end : EndData) →
     Speaks id new (with_sessions end (with_session id (Some new) end.sessions))
 speaks-sent id session new end k =
     record {
-      senders = ap (put_in id (Some new)) k.senders ∙ put_own id (Some session) (Some new);
+      senders = ap (put_in id (Some new)) k.senders ∙ put-own id (Some session) (Some new);
       nothing_waits = k.nothing_waits;
       no_answers = k.no_answers;
     }
@@ -198,7 +198,7 @@ pub listens-found : (role : Role) (acked : Bool) (known : EditionData) (r : Rece
     (end : EndData) → Listens role acked known r end →
     found (in_key role acked) end.sessions.receivers ≡ Some r
 listens-found role acked known r end k =
-    ap (found (in_key role acked)) k.receivers ∙ found_in role acked k.answering k.silent
+    ap (found (in_key role acked)) k.receivers ∙ found-in role acked k.answering k.silent
     ∙ ap (λ p. Some p) k.picked
 
 -- it gives the answer that is due
@@ -282,7 +282,7 @@ listens-put role true known r new end k =
       answering = new;
       silent = k.silent;
       receivers = ap (put_in (in_key role true) (Some new)) k.receivers
-          ∙ put_answering role k.answering k.silent new;
+          ∙ put-answering role k.answering k.silent new;
       picked = refl;
       other = k.other;
       rests = rest-same end (in_key role true) new ∙ k.rests;
@@ -293,7 +293,7 @@ listens-put role false known r new end k =
       answering = k.answering;
       silent = new;
       receivers = ap (put_in (in_key role false) (Some new)) k.receivers
-          ∙ put_silent role k.answering k.silent new;
+          ∙ put-silent role k.answering k.silent new;
       picked = refl;
       other = k.other;
       rests = rest-same end (in_key role false) new ∙ k.rests;

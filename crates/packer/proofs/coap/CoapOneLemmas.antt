@@ -29,8 +29,8 @@ use Rattle.packer.proofs.CoverLemmas.{Contains-map}
 use Rattle.packer.proofs.PacketFieldsLemmas.{Contains-unmap}
 use Rattle.packer.proofs.coap.SizedCoapLemmas.{once-coap}
 use Rattle.packer.proofs.SplitLemmas.{packet-both}
-use Rattle.packer.proofs.coap.CoapPutLemmas.{coap_uncomputed}
-use Rattle.packer.proofs.coap.CoapRestoredLemmas.{udp-of, head-field, message-field, message_coap}
+use Rattle.packer.proofs.coap.CoapPutLemmas.{coap-uncomputed}
+use Rattle.packer.proofs.coap.CoapRestoredLemmas.{udp-of, head-field, message-field, message-coap}
 use Rattle.packer.proofs.reading.OneRestoredLemmas.{kept-other, Named, one-of}
 
 abbrev with_at : FieldAt → List Bool → FieldValue
@@ -53,12 +53,12 @@ fields-one (f ∷ fs) (g ∷ gs) e h =
     (fields-one fs gs rest (λ x y m n a. h x y (Contains-rest f fs x m) (Contains-rest g gs y n) a))
 
 -- the fields of the message come after those of the headers
-pub message_ats : (direction : Direction) (this that : List ℕ) (fs gs : List FieldValue)
+pub message-ats : (direction : Direction) (this that : List ℕ) (fs gs : List FieldValue)
     → map (λ (f : FieldValue). f.at) (fields_in stack.IpUdp direction this ++ fs) ≡ map
     (λ (f : FieldValue). f.at) (fields_in stack.IpUdp direction that ++ gs)
     → map (λ (f : FieldValue). f.at) fs ≡ map (λ (f : FieldValue). f.at) gs
 unfolding fields_in
-message_ats direction this that fs gs e = ap (λ (ats : List FieldAt). drop 14 ats) e
+message-ats direction this that fs gs e = ap (λ (ats : List FieldAt). drop 14 ats) e
 
 module _ (rule : RuleData) (iids : Iids) (direction : Direction) (packet this that : List ℕ)
     (fields : List FieldValue) (from : ℕ) (computed : Computed)
@@ -127,7 +127,7 @@ module _ (rule : RuleData) (iids : Iids) (direction : Direction) (packet this th
   messages : here.message_fields ≡ there.message_fields
   messages =
       fields-one here.message_fields there.message_fields
-      (message_ats direction this that here.message_fields there.message_fields
+      (message-ats direction this that here.message_fields there.message_fields
       (ap (map (λ (f : FieldValue). f.at)) (sym here.its_fields) ∙ ats_this ∙ sym ats_that
       ∙ ap (map (λ (f : FieldValue). f.at)) there.its_fields))
       (λ f g m n at.
@@ -136,8 +136,8 @@ module _ (rule : RuleData) (iids : Iids) (direction : Direction) (packet this th
       let e = entry f x in
       let coap : same_layer (layer_of e.0.name) layer.Coap ≡ true =
       ap (λ (at : FieldAt). same_layer (layer_of at.name) layer.Coap) e.2
-      ∙ message_coap direction this r.restored_fields r.payload_from f here m in
-      let none : is_computed_checksum e.0 ≡ false = rw (coap_uncomputed e.0.name coap).0 refl in
+      ∙ message-coap direction this r.restored_fields r.payload_from f here m in
+      let none : is_computed_checksum e.0 ≡ false = rw (coap-uncomputed e.0.name coap).0 refl in
       of_this f e.0 x e.1 e.2
       ∙ kept-other (checksum_of this) (checksum_of that) e.0 (value_of fields (field_of e.0))
       none

@@ -30,7 +30,7 @@ use Rattle.rule_model.specs.First.{first_held}
 use Rattle.rule_model.specs.Matches.{IsSameSet}
 use Rattle.rule_model.specs.Residue.{value_of}
 use Rattle.rule_model.proofs.EntryRowsLemmas.{EntryHolds-from_IsAdmitted}
-use Rattle.decompress.proofs.LawLemmas.{unfilter, value_of-own, passes_at}
+use Rattle.decompress.proofs.LawLemmas.{unfilter, value_of-own, passes-at}
 use Rattle.ip_udp_fields.specs.Layout.{fields_in_packet_order}
 use Rattle.ip_udp_fields.specs.Fields.{at_name, fields_in, FieldsOf}
 use Rattle.ip_udp_fields.specs.Checksum.{checksum_of}
@@ -46,39 +46,39 @@ use Rattle.packer.specs.Unpacking.{filled_value, size_after, filled_headers, bod
 use Rattle.packer.specs.Unpacking.{headers_and_payload, fixed_headers, packet_around, packet_of}
 use Rattle.packer.specs.Rebuilding.{AreRestored}
 use Rattle.packer.proofs.PacketOrderLemmas.{to-order, from-order}
-use Rattle.packer.proofs.CoverLemmas.{Contains-map, passes_some, some_passes, same_entry}
-use Rattle.packer.proofs.CoverLemmas.{udp_listed, no_option, first_position}
+use Rattle.packer.proofs.CoverLemmas.{Contains-map, passes-some, some-passes, same_entry}
+use Rattle.packer.proofs.CoverLemmas.{udp-listed, no-option, first-position}
 use Rattle.packer.proofs.rebuilt.JoinedLemmas.{listed, AreFound, AreWide, found-listed}
 use Rattle.packer.proofs.rebuilt.JoinedLemmas.{value_refusals-same, joined-listed}
 use Rattle.packer.proofs.rebuilt.RestoredHeadersLemmas.{header_values}
 use Rattle.packer.proofs.rebuilt.HeadLemmas.{Heads, Heads-from_reads, heads-value, heads-found}
 use Rattle.packer.proofs.rebuilt.HeadLemmas.{heads-wide}
 use Rattle.packer.proofs.reading.KeptLemmas.{is_compute-true}
-use Rattle.packer.proofs.rebuilt.MadeLemmas.{final, HasValues, summed_if, made_values, made_value}
-use Rattle.packer.proofs.rebuilt.MadeLemmas.{and_true, and_false, chosen}
+use Rattle.packer.proofs.rebuilt.MadeLemmas.{final, HasValues, summed_if, made-values, made_value}
+use Rattle.packer.proofs.rebuilt.MadeLemmas.{and-true, and-false, chosen}
 use Rattle.packer.proofs.PacketFieldsLemmas.{Contains-unmap}
 use Rattle.packer.proofs.rebuilt.PutLemmas.{IsPut}
 use Rattle.packer.proofs.coap.SizedCoapLemmas.{once-coap}
 use Rattle.packer.proofs.coap.SortLemmas.{message-member, member-message}
 
 -- what is computed isn't of CoAP
-pub coap_uncomputed : (name : FieldName) → same_layer (layer_of name) layer.Coap ≡ true
+pub coap-uncomputed : (name : FieldName) → same_layer (layer_of name) layer.Coap ≡ true
     → (same_name name UdpChecksum ≡ false)
     × ((same_name name IpPayloadLength || same_name name UdpLength) ≡ false)
-coap_uncomputed CoapVersion h = (refl, refl)
-coap_uncomputed CoapType h = (refl, refl)
-coap_uncomputed CoapTkl h = (refl, refl)
-coap_uncomputed CoapCode h = (refl, refl)
-coap_uncomputed CoapMid h = (refl, refl)
-coap_uncomputed CoapToken h = (refl, refl)
-coap_uncomputed (CoapOption number) h = (refl, refl)
-coap_uncomputed _ h = absurd (false≢true h)
+coap-uncomputed CoapVersion h = (refl, refl)
+coap-uncomputed CoapType h = (refl, refl)
+coap-uncomputed CoapTkl h = (refl, refl)
+coap-uncomputed CoapCode h = (refl, refl)
+coap-uncomputed CoapMid h = (refl, refl)
+coap-uncomputed CoapToken h = (refl, refl)
+coap-uncomputed (CoapOption number) h = (refl, refl)
+coap-uncomputed _ h = absurd (false≢true h)
 
 coap_made_value : (checksum size : ℕ) (e : EntryData) (value : List Bool)
     → same_layer (layer_of e.name) layer.Coap ≡ true → made_value checksum size e value ≡ value
 coap_made_value checksum size e value h =
-    let none = coap_uncomputed e.name h in
-    rw (none.0, none.1, and_false (is_compute e.action)) refl
+    let none = coap-uncomputed e.name h in
+    rw (none.0, none.1, and-false (is_compute e.action)) refl
 
 computed_among : (name : FieldName) → is_computed_by Compute name ≡ true
     → Contains (fields_of_stack stack.IpUdpCoap) name
@@ -95,7 +95,7 @@ computed-coap rule direction e s admitted among c =
     subst (λ (of : Stack). Contains (fields_of_stack of) e.name) (sym s)
     (computed_among e.name
     (subst (λ a. is_computed_by a e.name ≡ true) (is_compute-true e.action c)
-    (passes_at rule direction admitted e among).computed))
+    (passes-at rule direction admitted e among).computed))
 
 -- a packet that was made, and of what
 pub record IsCoapPut (rule : RuleData) (direction : Direction) (fields : List FieldValue)
@@ -150,12 +150,12 @@ module _ (rule : RuleData) (direction : Direction) (fields : List FieldValue) (p
       → same_layer (layer_of e.name) layer.Coap ≡ false → Contains names e.name
       × (field_of e ≡ at_name e.name)
   entry_head e among h =
-      let some = passes_some (same_name e.name) names (udp_listed e.name h) in
+      let some = passes-some (same_name e.name) names (udp-listed e.name h) in
       let holds =
       EntryHolds-from_IsAdmitted rule admitted e
       (unfilter (λ d. covers d.direction direction) rule.entries e among).0 in (
         subst (Contains names) (sym (same_name-true e.name some.0 some.2)) some.1,
-        first_position e holds.shape (no_option e.name stack.IpUdp tt (udp_listed e.name h)),
+        first-position e holds.shape (no-option e.name stack.IpUdp tt (udp-listed e.name h)),
       )
 
   checksum_choice : (e : EntryData) → Contains (covered rule direction) e
@@ -167,13 +167,13 @@ module _ (rule : RuleData) (direction : Direction) (fields : List FieldValue) (p
             let choice : computes_checksum rule direction ≡ is_compute e.action =
             elim (cases_Bool (is_compute e.action)) [
               | inl c ↦
-                  some_passes (λ d. same_name d.name UdpChecksum && is_compute d.action)
+                  some-passes (λ d. same_name d.name UdpChecksum && is_compute d.action)
                   (covered rule direction) e among
                   (and_from (same_name e.name UdpChecksum) (is_compute e.action) t c) ∙ sym c
               | inr c ↦
                   false_from_ne_true (computes_checksum rule direction)
                   (λ computes.
-                  let d = passes_some (λ d. same_name d.name UdpChecksum && is_compute d.action)
+                  let d = passes-some (λ d. same_name d.name UdpChecksum && is_compute d.action)
                   (covered rule direction) computes in
                   let parts =
                   and_parts (same_name d.0.name UdpChecksum) (is_compute d.0.action) d.2 in
@@ -191,8 +191,8 @@ module _ (rule : RuleData) (direction : Direction) (fields : List FieldValue) (p
                   ∙ sym c
             ]
             in
-            rw t (and_true (computes_checksum rule direction) ∙ choice)
-        | inr f ↦ rw f (and_false (computes_checksum rule direction))
+            rw t (and-true (computes_checksum rule direction) ∙ choice)
+        | inr f ↦ rw f (and-false (computes_checksum rule direction))
       ]
 
   abbrev made : List ℕ
@@ -214,7 +214,7 @@ module _ (rule : RuleData) (direction : Direction) (fields : List FieldValue) (p
   has right =
       let own : first_held (value_refusals stack.IpUdp headers (length body)) ≡ None =
       ap (λ of. first_held (value_refusals of headers (length body))) (sym s) ∙ right in
-      made_values stack.IpUdp direction (computes_checksum rule direction) values body tt
+      made-values stack.IpUdp direction (computes_checksum rule direction) values body tt
       (λ c. refl) wide
       (ap first_held
       (value_refusals-same stack.IpUdp values (listed stack.IpUdp direction values) headers

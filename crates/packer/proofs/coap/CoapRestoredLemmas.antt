@@ -40,19 +40,19 @@ use Rattle.rule_model.proofs.FirstLemmas.{first_held-append_none}
 use Rattle.rule_model.proofs.EntryRowsLemmas.{AreApart, AreApart-from_IsAdmitted}
 use Rattle.decompress.specs.Reading.{restore_at}
 use Rattle.decompress.specs.Stands.{Stands}
-use Rattle.decompress.proofs.LawLemmas.{all_at, passes_at, Stands-from_read, value_of-own}
+use Rattle.decompress.proofs.LawLemmas.{all-at, passes-at, Stands-from_read, value_of-own}
 use Rattle.decompress.proofs.MatchedLemmas.{reads_back, restored_value-agrees}
 use Rattle.ip_udp_fields.specs.Layout.{fields_in_packet_order}
 use Rattle.ip_udp_fields.specs.Fields.{at_name, field_in, fields_in, FieldsOf}
 use Rattle.ip_udp_fields.specs.Checksum.{checksum_of}
 use Rattle.ip_udp_fields.specs.Join.{value_in, other_number, too_many, value_refusals}
 use Rattle.ip_udp_fields.proofs.JoinLemmas.{join_refusal-none}
-use Rattle.ip_udp_fields.proofs.SplitLemmas.{joins_again}
+use Rattle.ip_udp_fields.proofs.SplitLemmas.{joins-again}
 use Rattle.coap_fields.specs.Message.{Message}
 use Rattle.coap_fields.specs.Fields.{field, fields_of_message}
 use Rattle.coap_fields.specs.Join.{join_refusal, message_from}
 use Rattle.coap_fields.proofs.SizeLemmas.{none-wrong}
-use Rattle.coap_fields.proofs.AgainLemmas.{joins_again as message-joins_again, makes_again}
+use Rattle.coap_fields.proofs.AgainLemmas.{joins-again as message-joins-again, makes-again}
 use Rattle.packer.specs.Packets.{IsCoapPacket, PacketOf, computed_over}
 use Rattle.packer.specs.Schc.{is_computed_checksum, IsRestored}
 use Rattle.packer.specs.Ordering.{message_fields}
@@ -68,9 +68,9 @@ use Rattle.packer.proofs.coap.SortLemmas.{message-member, member-message, messag
 use Rattle.packer.proofs.coap.AlikeLemmas.{IsAlike, AreAlike, alike-from, alike-ats, refusals-alike}
 use Rattle.packer.proofs.coap.AlikeLemmas.{length-alike}
 use Rattle.packer.proofs.rebuilt.ListedLemmas.{coap-listed-none}
-use Rattle.packer.proofs.rebuilt.FilledLemmas.{header_tests-none, message_tests-none, rebuilt_made}
-use Rattle.packer.proofs.rebuilt.FilledLemmas.{coap_made}
-use Rattle.packer.proofs.CoverLemmas.{each_passes, some_passes, mapped_value, value_in-there}
+use Rattle.packer.proofs.rebuilt.FilledLemmas.{header_tests-none, message_tests-none, rebuilt-made}
+use Rattle.packer.proofs.rebuilt.FilledLemmas.{coap-made}
+use Rattle.packer.proofs.CoverLemmas.{each-passes, some-passes, mapped-value, value_in-there}
 use Rattle.packer.proofs.HeaderFieldsLemmas.{is_below_coap, fields-below}
 use Rattle.packer.proofs.HeadersLemmas.{from-within}
 use Rattle.packer.proofs.coap.MessageFieldsLemmas.{message-above}
@@ -84,7 +84,7 @@ use Rattle.packer.proofs.reading.KeptLemmas.{is_compute-true, filled-kept, holds
 use Rattle.packer.proofs.reading.KeptLemmas.{agrees-at, needed-kept, none-held}
 use Rattle.packer.proofs.rebuilt.PutLemmas.{same-restored}
 use Rattle.packer.proofs.coap.CoapPutLemmas.{IsCoapPut, computed-coap, coap-put}
-use Rattle.packer.proofs.reading.RestoredLemmas.{value_refusals_by, ats, made-kept, IsReadBack}
+use Rattle.packer.proofs.reading.RestoredLemmas.{value_refusals-by, ats, made-kept, IsReadBack}
 
 -- each message has these fields
 coap_there : (m : Message) (name : FieldName) → Contains coap_fields name → (g : FieldValue)
@@ -141,10 +141,10 @@ above-coap (CoapOption number) h = refl
 above-coap _ h = absurd (true≢false h)
 
 -- which is one of CoAP
-pub message_coap : (direction : Direction) (packet : List ℕ) (fields : List FieldValue) (from : ℕ)
+pub message-coap : (direction : Direction) (packet : List ℕ) (fields : List FieldValue) (from : ℕ)
     (g : FieldValue) → (p : IsCoapPacket direction packet fields from) → Contains p.message_fields g
     → same_layer (layer_of g.at.name) layer.Coap ≡ true
-message_coap direction packet fields from g p among =
+message-coap direction packet fields from g p among =
     above-coap g.at.name
     (All-contains (λ f. is_below_coap f.at.name ≡ false) p.message_fields g
     (subst (λ (all : List FieldValue). All (λ f. is_below_coap f.at.name ≡ false) all)
@@ -156,7 +156,7 @@ has_name : (rule : RuleData) (iids : Iids) (direction : Direction) (fields : Lis
     → has_field rule direction name ≡ true
 has_name rule iids direction fields computed name f matches among is =
     let e = matches.same_set.each_field f among in
-    some_passes (λ d. same_name d.name name) (covered rule direction) e.0 e.1
+    some-passes (λ d. same_name d.name name) (covered rule direction) e.0 e.1
     (subst (λ n. same_name n name ≡ true) (sym (ap (λ (at : FieldAt). at.name) e.2 ∙ is))
     (same_name-itself name))
 
@@ -166,7 +166,7 @@ pub reads-coap : (rule : RuleData) (iids : Iids) (direction : Direction) (packet
     → IsCoapPacket direction packet fields from → Matches rule iids direction fields computed
     → reads rule direction ≡ true
 reads-coap rule iids direction packet fields from computed s p matches =
-    each_passes (has_field rule direction) (fields_of_stack (stack_of rule))
+    each-passes (has_field rule direction) (fields_of_stack (stack_of rule))
     (λ name among.
     elim (Contains-append_cases (ip_fields ++ udp_fields) coap_fields name
     (subst (λ (of : Stack). Contains (fields_of_stack of) name) s among)) [
@@ -268,7 +268,7 @@ module _ (rule : RuleData) (iids : Iids) (direction : Direction) (packet : List 
   restored : (e : EntryData) → Contains (covered rule direction) e
       → value_of again (field_of e) ≡ restored_value iids e (value_of fields (field_of e))
   restored e among =
-      mapped_value rule direction (λ d. restored_value iids d (value_of fields (field_of d))) e
+      mapped-value rule direction (λ d. restored_value iids d (value_of fields (field_of d))) e
       apart among
 
   no_operator : first_held (map (operator_fault again) (covered rule direction)) ≡ None
@@ -278,7 +278,7 @@ module _ (rule : RuleData) (iids : Iids) (direction : Direction) (packet : List 
       ap not
       (ap (operator_holds e.operator e.targets) (restored e among)
       ∙ holds-restored iids (stack_of rule) computed e (value_of fields (field_of e))
-      (passes_at rule direction admitted e among)
+      (passes-at rule direction admitted e among)
       (agrees-at rule iids direction fields computed e matches among)))
 
   reads_fields : (rest : List Bool)
@@ -308,7 +308,7 @@ module _ (rule : RuleData) (iids : Iids) (direction : Direction) (packet : List 
         | inl c ↦
             absurd (true≢false
             (sym (subst (λ a. is_computed_by a e.name ≡ true) (is_compute-true e.action c)
-            (passes_at rule direction admitted e among).computed) ∙ h))
+            (passes-at rule direction admitted e among).computed) ∙ h))
         | inr n ↦ n
       ]
 
@@ -319,7 +319,7 @@ module _ (rule : RuleData) (iids : Iids) (direction : Direction) (packet : List 
   kept e among c needed =
       restored e among
       ∙ restored_value-agrees iids computed e (value_of fields (field_of e))
-      (passes_at rule direction admitted e among).pair
+      (passes-at rule direction admitted e among).pair
       (needed-kept rule direction e admitted among needed) (uncomputed e among c)
       (agrees-at rule iids direction fields computed e matches among)
 
@@ -350,7 +350,7 @@ module _ (rule : RuleData) (iids : Iids) (direction : Direction) (packet : List 
         f.0,
         member-message again f.0 f.1
             (ap (λ (x : FieldAt). same_layer (layer_of x.name) layer.Coap) (sym at)
-            ∙ message_coap direction packet fields from g p among),
+            ∙ message-coap direction packet fields from g p among),
         at,
       )
 
@@ -392,7 +392,7 @@ module _ (rule : RuleData) (iids : Iids) (direction : Direction) (packet : List 
   joins : join_refusal mine ≡ None
   unfolding join_refusal
   joins = ap first_held (refusals-alike mine p.message_fields alike)
-      ∙ message-joins_again (drop 48 packet) p.message_fields p.message_from p.its_message
+      ∙ message-joins-again (drop 48 packet) p.message_fields p.message_from p.its_message
 
   payload_is : payload ≡ drop p.message_from (drop 48 packet)
   payload_is = ap (λ n. drop n packet) p.its_payload ∙ sym (drop-drop p.message_from 48 packet)
@@ -402,7 +402,7 @@ module _ (rule : RuleData) (iids : Iids) (direction : Direction) (packet : List 
       length-alike mine p.message_fields payload alike
       ∙ ap (λ (bytes : List ℕ). length (message_from p.message_fields bytes)) payload_is
       ∙ ap (λ (bytes : List ℕ). length bytes)
-      (makes_again (drop 48 packet) p.message_fields p.message_from p.its_message)
+      (makes-again (drop 48 packet) p.message_fields p.message_from p.its_message)
 
   size : size_after (stack_of rule) (length body) ≡ length packet - 40
   size =
@@ -453,7 +453,7 @@ module _ (rule : RuleData) (iids : Iids) (direction : Direction) (packet : List 
   own_right : first_held (value_refusals stack.IpUdp heads_of (length (drop 48 packet))) ≡ None
   own_right =
       (join_refusal-none stack.IpUdp direction heads_of (length (drop 48 packet))
-      (joins_again stack.IpUdp direction packet heads_of 48
+      (joins-again stack.IpUdp direction packet heads_of 48
       (udp-of direction packet fields from p))).right
 
   front : first_held (front_tests again) ≡ None
@@ -485,12 +485,12 @@ module _ (rule : RuleData) (iids : Iids) (direction : Direction) (packet : List 
       ∙ ap (λ m. filled_value m e.0 (value_of again (field_of e.0))) size
       ∙ ap (filled_value (length packet - 40) e.0) (restored e.0 e.1)
       ∙ filled-kept iids (stack_of rule) packet e.0 (value_of fields (field_of e.0))
-      (passes_at rule direction admitted e.0 e.1)
+      (passes-at rule direction admitted e.0 e.1)
       (λ c. computed-coap rule direction e.0 s admitted e.1 c)
       (agrees-at rule iids direction fields computed e.0 matches e.1) lossy checksum
       ∙ ap (value_of fields) e.2
       in
-      all_at (λ m. value_in headers m ≡ Some (header_values rule direction again (length body) m))
+      all-at (λ m. value_in headers m ≡ Some (header_values rule direction again (length body) m))
       (fields_of_stack (fixed_headers (stack_of rule)))
       (heads-found rule direction again (length body) heads) n
       (subst (λ (of : Stack). Contains (fields_of_stack of) n) (sym (ap fixed_headers s)) among)
@@ -499,7 +499,7 @@ module _ (rule : RuleData) (iids : Iids) (direction : Direction) (packet : List 
 
   right-coap : first_held (value_refusals stack.IpUdpCoap headers (length body)) ≡ None
   right-coap =
-      ap first_held (value_refusals_by stack.IpUdp headers heads_of (length body) tt header_kept)
+      ap first_held (value_refusals-by stack.IpUdp headers heads_of (length body) tt header_kept)
       ∙ ap (λ n. first_held (value_refusals stack.IpUdp heads_of n)) body_size
       ∙ own_right
 
@@ -529,8 +529,8 @@ module _ (rule : RuleData) (iids : Iids) (direction : Direction) (packet : List 
       (packet_of rule direction again payload)
   unfolding packet_behind_headers
   rebuilt-restored =
-      rebuilt_made rule direction again payload no_operator as_listed
-      ∙ coap_made rule direction again payload body s messaged refl
+      rebuilt-made rule direction again payload no_operator as_listed
+      ∙ coap-made rule direction again payload body s messaged refl
       ∙ ap (λ found. packet_or found (packet_around rule direction again body))
       (header_tests-none (stack_of rule) headers (length body) right)
       ∙ ap (λ of. Ok (packet_around rule direction again (body_of of again payload))) (sym s)
@@ -596,7 +596,7 @@ module _ (rule : RuleData) (iids : Iids) (direction : Direction) (packet : List 
             ∙ ap (λ n. made_value (checksum_of packet') n e (value_of again (field_of e))) same_size
             ∙ ap (made_value (checksum_of packet') (length packet - 40) e) (restored e among)
             ∙ made-kept iids (stack_of rule) packet e (value_of fields (field_of e))
-            (checksum_of packet') (passes_at rule direction admitted e among)
+            (checksum_of packet') (passes-at rule direction admitted e among)
             (λ c. computed-coap rule direction e s admitted among c)
             (agrees-at rule iids direction fields computed e matches among);
       }

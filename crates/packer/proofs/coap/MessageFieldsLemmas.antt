@@ -25,24 +25,24 @@ use Rattle.coap_fields.specs.Fields.{fields_of_message}
 use Rattle.packer.proofs.HeaderFieldsLemmas.{is_below_coap}
 
 -- the token, if there is one
-pub token_each : (P : FieldValue → Type 0) (token : List ℕ)
+pub token-each : (P : FieldValue → Type 0) (token : List ℕ)
     → ((byte : ℕ) (more : List ℕ) → token ≡ byte ∷ more
     → P (field CoapToken (octets (byte ∷ more)))) → All P (token_fields token)
-token_each P [] h = All-nil P
-token_each P (byte ∷ more) h =
+token-each P [] h = All-nil P
+token-each P (byte ∷ more) h =
     All-cons P (field CoapToken (octets (byte ∷ more))) [] (h byte more refl) (All-nil P)
 
 -- each option
-pub options_each : (P : FieldValue → Type 0) (before place : ℕ) (options : List OptionData)
+pub options-each : (P : FieldValue → Type 0) (before place : ℕ) (options : List OptionData)
     → ((number position : ℕ) (value : List ℕ) → P (option_field number position value))
     → All P (option_fields before place options)
 unfolding option_fields
-options_each P before place [] h = All-nil P
-options_each P before place (o ∷ options) h =
+options-each P before place [] h = All-nil P
+options-each P before place (o ∷ options) h =
     All-cons P (option_field o.number (next_place before place o.number) o.value)
     (option_fields o.number (next_place before place o.number) options)
     (h o.number (next_place before place o.number) o.value)
-    (options_each P o.number (next_place before place o.number) options h)
+    (options-each P o.number (next_place before place o.number) options h)
 
 -- each field of the header
 pub record HoldsOfHeader (P : FieldValue → Type 0) (m : Message) : Type 0 where
@@ -59,11 +59,11 @@ all_five P a b c d e rest h i j k l more =
     (All-cons P b (c ∷ d ∷ e ∷ rest) i
     (All-cons P c (d ∷ e ∷ rest) j (All-cons P d (e ∷ rest) k (All-cons P e rest l more))))
 
-pub message_each : (P : FieldValue → Type 0) (m : Message) → HoldsOfHeader P m
+pub message-each : (P : FieldValue → Type 0) (m : Message) → HoldsOfHeader P m
     → All P (token_fields m.token) → All P (option_fields 0 0 m.options)
     → All P (fields_of_message m)
 unfolding fields_of_message
-message_each P m h token options =
+message-each P m h token options =
     all_five P (field CoapVersion (number_bits 2 1)) (field CoapType (number_bits 2 m.kind))
     (field CoapTkl (number_bits 4 (length m.token))) (field CoapCode (number_bits 8 m.code))
     (field CoapMid (number_bits 16 m.id)) (token_fields m.token ++ option_fields 0 0 m.options)
@@ -73,16 +73,16 @@ message_each P m h token options =
 -- none is a field of IPv6 or UDP
 pub message-above : (m : Message) → All (λ f. is_below_coap f.at.name ≡ false) (fields_of_message m)
 message-above m =
-    message_each (λ f. is_below_coap f.at.name ≡ false) m
+    message-each (λ f. is_below_coap f.at.name ≡ false) m
     (record { version = refl; kind = refl; tkl = refl; code = refl; id = refl })
-    (token_each (λ f. is_below_coap f.at.name ≡ false) m.token (λ byte more e. refl))
-    (options_each (λ f. is_below_coap f.at.name ≡ false) 0 0 m.options
+    (token-each (λ f. is_below_coap f.at.name ≡ false) m.token (λ byte more e. refl))
+    (options-each (λ f. is_below_coap f.at.name ≡ false) 0 0 m.options
     (λ number position value. refl))
 
 -- each has the width of its name
 pub message-wide : (m : Message) → All (λ f. WidthHolds f.at.name f.value) (fields_of_message m)
 message-wide m =
-    message_each (λ f. WidthHolds f.at.name f.value) m
+    message-each (λ f. WidthHolds f.at.name f.value) m
     (record {
       version = length-number_bits 2 1;
       kind = length-number_bits 2 m.kind;
@@ -90,8 +90,8 @@ message-wide m =
       code = length-number_bits 8 m.code;
       id = length-number_bits 16 m.id;
     })
-    (token_each (λ f. WidthHolds f.at.name f.value) m.token (λ byte more e. tt))
-    (options_each (λ f. WidthHolds f.at.name f.value) 0 0 m.options (λ number position value. tt))
+    (token-each (λ f. WidthHolds f.at.name f.value) m.token (λ byte more e. tt))
+    (options-each (λ f. WidthHolds f.at.name f.value) 0 0 m.options (λ number position value. tt))
 
 -- a token of so many bytes, and an option of at most so many
 abbrev pub RightSize : ℕ → ℕ → FieldName → List Bool → Type 0
@@ -148,9 +148,9 @@ token_length token byte more e = length-octets (byte ∷ more)
 pub message-right : (m : Message) (most : ℕ) → length (spelled m) ≤ most
     → All (λ f. RightSize (length m.token) most f.at.name f.value) (fields_of_message m)
 message-right m most h =
-    message_each (λ f. RightSize (length m.token) most f.at.name f.value) m
+    message-each (λ f. RightSize (length m.token) most f.at.name f.value) m
     (record { version = tt; kind = tt; tkl = tt; code = tt; id = tt })
-    (token_each (λ f. RightSize (length m.token) most f.at.name f.value) m.token
+    (token-each (λ f. RightSize (length m.token) most f.at.name f.value) m.token
     (token_length m.token))
     (options_right (length m.token) most 0 0 m.options (omega (arith, options_within m, h)))
 

@@ -38,9 +38,9 @@ use Rattle.ip_udp_fields.proofs.SplitLemmas.{field_bits, lengths}
 use Rattle.coap_fields.specs.Message.{Message, spelled}
 use Rattle.coap_fields.specs.Fields.{fields_of_message}
 use Rattle.packer.specs.Packets.{IsCoapPacket}
-use Rattle.packer.proofs.HeaderFieldsLemmas.{are_apart, names-apart, other_at, widths_along}
-use Rattle.packer.proofs.HeaderFieldsLemmas.{is_below_coap, names-below, fields-below, kind_of}
-use Rattle.packer.proofs.HeaderFieldsLemmas.{of_rule}
+use Rattle.packer.proofs.HeaderFieldsLemmas.{are_apart, names-apart, other-at, widths-along}
+use Rattle.packer.proofs.HeaderFieldsLemmas.{is_below_coap, names-below, fields-below, kind-of}
+use Rattle.packer.proofs.HeaderFieldsLemmas.{of-rule}
 use Rattle.packer.proofs.HeadersLemmas.{size_after-below}
 use Rattle.packer.proofs.coap.MessageFieldsLemmas.{RightSize, message-above, message-wide}
 use Rattle.packer.proofs.coap.MessageFieldsLemmas.{message-right, message-token_bits}
@@ -73,7 +73,7 @@ once_with direction packet (name ∷ names) message h b above once =
     (All-map (λ g. (field_in direction packet name).at ≢ g.at) (field_in direction packet) names
     (All-weaker (λ other. not (same_name name other) ≡ true)
     (λ other. (field_in direction packet name).at ≢ (field_in direction packet other).at)
-    (other_at direction packet name) names
+    (other-at direction packet name) names
     (AllPass-from_list_all (λ other. not (same_name name other)) names parts.0)))
     (All-weaker (λ g. is_below_coap g.at.name ≡ false)
     (λ g. (field_in direction packet name).at ≢ g.at)
@@ -178,7 +178,7 @@ sized-coap rule iids direction packet fields from computed admitted p match =
           All-contains (λ f. WidthHolds f.at.name f.value) fields f
           (subst (All (λ f. WidthHolds f.at.name f.value)) (sym are)
           (All-append (λ f. WidthHolds f.at.name f.value) heads message
-          (widths_along direction packet names within) (message-wide m))) c;
+          (widths-along direction packet names within) (message-wide m))) c;
       sendable = λ f e c d same.
           let named : e.name ≡ f.at.name = ap (λ (at : FieldAt). at.name) same in
           let own : RightSize (length m.token) most e.name f.value =
@@ -191,7 +191,7 @@ sized-coap rule iids direction packet fields from computed admitted p match =
             token_holds = token_right fields (length m.token) most e.name e.action f.value bits own;
             size_holds =
                 size_right (length m.token) most e.name e.length e.action e.operator e.targets
-                f.value small own (kind_of rule admitted e (of_rule rule direction e d))
-                (EntryHolds-from_IsAdmitted rule admitted e (of_rule rule direction e d)).msb;
+                f.value small own (kind-of rule admitted e (of-rule rule direction e d))
+                (EntryHolds-from_IsAdmitted rule admitted e (of-rule rule direction e d)).msb;
           };
     }

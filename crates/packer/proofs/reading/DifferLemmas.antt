@@ -57,16 +57,16 @@ use Rattle.packer.specs.Packets.{IsCoapPacket, PacketOf}
 use Rattle.packer.specs.Schc.{is_computed_checksum, kept_value, MatchesPacket, IsRestored}
 use Rattle.packer.specs.Laws.{DiffersOnlyWhereDropped}
 use Rattle.packer.proofs.rebuilt.ChecksumLemmas.{AreBytes-take, AreBytes-drop}
-use Rattle.packer.proofs.CoverLemmas.{Contains-parts, Contains-map, passes_each, fails_each}
-use Rattle.packer.proofs.CoverLemmas.{some_passes, first_position}
+use Rattle.packer.proofs.CoverLemmas.{Contains-parts, Contains-map, passes-each, fails-each}
+use Rattle.packer.proofs.CoverLemmas.{some-passes, first-position}
 use Rattle.packer.proofs.PacketFieldsLemmas.{PacketOf-fields, Contains-unmap, named-field}
 use Rattle.packer.proofs.PacketFieldsLemmas.{field-named, once-fields}
 use Rattle.packer.proofs.rebuilt.PutPacketLemmas.{stack-cases}
 use Rattle.packer.proofs.coap.SizedCoapLemmas.{once-coap}
 use Rattle.packer.proofs.SplitLemmas.{packet-both}
 use Rattle.packer.proofs.reading.KeptLemmas.{needed-kept}
-use Rattle.packer.proofs.coap.CoapRestoredLemmas.{head-field, message-field, message_coap}
-use Rattle.packer.proofs.coap.CoapOneLemmas.{fields-one, message_ats}
+use Rattle.packer.proofs.coap.CoapRestoredLemmas.{head-field, message-field, message-coap}
+use Rattle.packer.proofs.coap.CoapOneLemmas.{fields-one, message-ats}
 use Rattle.packer.proofs.reading.UndroppedLemmas.{lossy-listed, own-checksum}
 
 -- with one more at the end, or without
@@ -167,7 +167,7 @@ udp-at stack.Ip direction x fields from f p among e =
     let named = named-field stack.Ip direction x fields from f p among in
     let name : named.0 ≡ UdpChecksum = ap (λ (g : FieldValue). g.at.name) named.2 ∙ e in
     absurd (false≢true
-    (passes_each (λ n. not (same_name n UdpChecksum)) ip_fields refl UdpChecksum
+    (passes-each (λ n. not (same_name n UdpChecksum)) ip_fields refl UdpChecksum
     (subst (Contains ip_fields) name named.1)))
 udp-at stack.IpUdp direction x fields from f p among e = tt
 udp-at stack.IpUdpCoap direction x fields from f p among e = tt
@@ -275,7 +275,7 @@ module _ (rule : RuleData) (iids : Iids) (direction : Direction) (packet restore
         elim (cases_Bool (is_lossy e.operator e.action)) [
           | inl l ↦
               absurd (true≢false
-              (sym h ∙ fails_each (λ (f : FieldAt). is_in_checksum f.name)
+              (sym h ∙ fails-each (λ (f : FieldAt). is_in_checksum f.name)
               (lossy_fields rule direction) clear (field_of e)
               (lossy-listed rule direction e among l)))
           | inr f ↦ f
@@ -314,7 +314,7 @@ module _ (rule : RuleData) (iids : Iids) (direction : Direction) (packet restore
           r.is_packet in
           let messages : here.message_fields ≡ there.message_fields =
           fields-one here.message_fields there.message_fields
-          (message_ats direction restored packet here.message_fields there.message_fields
+          (message-ats direction restored packet here.message_fields there.message_fields
           (ap (map (λ (f : FieldValue). f.at)) (sym here.its_fields) ∙ r.same_fields
           ∙ ap (map (λ (f : FieldValue). f.at)) there.its_fields))
           (λ f g x y at.
@@ -324,7 +324,7 @@ module _ (rule : RuleData) (iids : Iids) (direction : Direction) (packet restore
           in-stays e used
           (coap-in e.name
           (ap (λ (at : FieldAt). same_layer (layer_of at.name) layer.Coap) own
-          ∙ message_coap direction restored r.restored_fields r.payload_from f here x))))
+          ∙ message-coap direction restored r.restored_fields r.payload_from f here x))))
           in
           let payload : drop here.message_from (drop 48 restored) ≡ drop there.message_from
           (drop 48 packet) =
@@ -389,10 +389,10 @@ module _ (rule : RuleData) (iids : Iids) (direction : Direction) (packet restore
         let holds =
         EntryHolds-from_IsAdmitted rule admitted e
         (unfilter (λ d. covers d.direction direction) rule.entries e among).0 in
-        let at : field_of e ≡ at_name UdpChecksum = first_position e holds.shape (ap is_option name)
+        let at : field_of e ≡ at_name UdpChecksum = first-position e holds.shape (ap is_option name)
         ∙ ap at_name name in
         let computes : computes_checksum rule direction ≡ true =
-        some_passes is_computed_checksum (covered rule direction) e among c in
+        some-passes is_computed_checksum (covered rule direction) e among c in
         elim (cases_Bool (list_any (λ f. is_in_checksum f.name) (lossy_fields rule direction))) [
           | inl t ↦
               subst (Contains (dropped_fields rule direction)) (sym at)

@@ -36,7 +36,7 @@ use Rattle.decompress.proofs.MatchedLemmas.{restored_value-agrees}
 use Rattle.packer.specs.Packets.{computed_over}
 use Rattle.packer.specs.Schc.{is_computed_checksum}
 use Rattle.packer.specs.Unpacking.{is_computed_length, filled_value}
-use Rattle.packer.proofs.CoverLemmas.{Contains-parts, passes_each}
+use Rattle.packer.proofs.CoverLemmas.{Contains-parts, passes-each}
 
 -- ignore and not-sent
 pub lossy-parts : (operator : Operator) (action : Action) → is_lossy operator action ≡ true
@@ -92,13 +92,13 @@ lossy-checksum e h =
     ∙ none (same_name e.name UdpChecksum)
 
 -- what Compute may make, but for the UDP checksum, is the payload length or the UDP length
-pub computed_names : (name : FieldName) → is_computed_by Compute name ≡ true
+pub computed-names : (name : FieldName) → is_computed_by Compute name ≡ true
     → same_name name UdpChecksum ≡ false
     → (same_name name IpPayloadLength || same_name name UdpLength) ≡ true
-computed_names IpPayloadLength h k = refl
-computed_names UdpLength h k = refl
-computed_names UdpChecksum h k = absurd (true≢false k)
-computed_names name h k = absurd (false≢true h)
+computed-names IpPayloadLength h k = refl
+computed-names UdpLength h k = refl
+computed-names UdpChecksum h k = absurd (true≢false k)
+computed-names name h k = absurd (false≢true h)
 
 payload_computed : (of : Stack) (packet : List ℕ)
     → computed_value (computed_over of packet) IpPayloadLength ≡ Some (length packet - 40)
@@ -110,7 +110,7 @@ udp_computed : (of : Stack) (packet : List ℕ) → Contains (fields_of_stack of
     → computed_value (computed_over of packet) UdpLength ≡ Some (length packet - 40)
 udp_computed stack.Ip packet among =
     absurd (false≢true
-    (passes_each (λ n. not (same_name n UdpLength)) ip_fields refl UdpLength among))
+    (passes-each (λ n. not (same_name n UdpLength)) ip_fields refl UdpLength among))
 udp_computed stack.IpUdp packet among = refl
 udp_computed stack.IpUdpCoap packet among = refl
 
@@ -157,7 +157,7 @@ filled-kept iids of packet e value passes among agrees lossy checksum =
           ]
           in
           let names : (same_name e.name IpPayloadLength || same_name e.name UdpLength) ≡ true =
-          computed_names e.name
+          computed-names e.name
           (subst (λ a. is_computed_by a e.name ≡ true) (is_compute-true e.action c)
           passes.computed) other
           in

@@ -20,7 +20,7 @@ use Rattle.rule_model.specs.Data.{EntryData, RuleData}
 use Rattle.rule_model.specs.Cover.{field_of, stack_of}
 use Rattle.rule_model.specs.First.{first_held}
 use Rattle.rule_model.specs.Residue.{value_of}
-use Rattle.decompress.proofs.LawLemmas.{all_from}
+use Rattle.decompress.proofs.LawLemmas.{all-from}
 use Rattle.ip_udp_fields.specs.Layout.{IsWithoutCoap, header_size, fields_in_packet_order}
 use Rattle.ip_udp_fields.specs.Fields.{at_name, fields_in, FieldsOf}
 use Rattle.ip_udp_fields.specs.Checksum.{checksum_of}
@@ -29,8 +29,8 @@ use Rattle.ip_udp_fields.proofs.OrderLemmas.{with_value}
 use Rattle.ip_udp_fields.proofs.PlaceLemmas.{fields-within}
 use Rattle.ip_udp_fields.proofs.RefusalLemmas.{header_size-is_packet}
 use Rattle.ip_udp_fields.proofs.JoinLemmas.{join_refusal-none}
-use Rattle.ip_udp_fields.proofs.SplitLemmas.{field_bits, lengths, joins_again, one_packet}
-use Rattle.ip_udp_fields.proofs.SplitLemmas.{one_split, without_coap}
+use Rattle.ip_udp_fields.proofs.SplitLemmas.{field_bits, lengths, joins-again, one_packet}
+use Rattle.ip_udp_fields.proofs.SplitLemmas.{one-split, without-coap}
 use Rattle.packer.specs.Schc.{is_computed_checksum, kept_value, IsRestored}
 use Rattle.packer.specs.Unpacking.{headers_and_payload}
 use Rattle.packer.proofs.PacketOrderLemmas.{from-order}
@@ -39,15 +39,15 @@ use Rattle.packer.proofs.rebuilt.JoinedLemmas.{listed, AreWide, found-listed, jo
 use Rattle.packer.proofs.rebuilt.JoinedLemmas.{joined-rest, AreBytes-joined}
 use Rattle.packer.proofs.rebuilt.ChecksumLemmas.{summed, front_names, front-listed, front-same}
 use Rattle.packer.proofs.rebuilt.ChecksumLemmas.{checksum-same, AreBytes-take, AreBytes-drop}
-use Rattle.packer.proofs.rebuilt.RestoredHeadersLemmas.{udp_stack}
-use Rattle.packer.proofs.rebuilt.MadeLemmas.{listed_value}
+use Rattle.packer.proofs.rebuilt.RestoredHeadersLemmas.{udp-stack}
+use Rattle.packer.proofs.rebuilt.MadeLemmas.{listed-value}
 use Rattle.packer.proofs.PacketFieldsLemmas.{PacketOf-fields}
 
 wide_bits : (of : Stack) (direction : Direction) (packet : List ℕ) (fields : List FieldValue)
     (from : ℕ) → FieldsOf of direction packet fields from → AreWide of (field_bits direction packet)
 wide_bits of direction packet fields from p =
     lengths of direction packet (fields_of_stack of) (header_size-is_packet of packet p.is_packet)
-    (fields-within of direction (without_coap of packet p.is_packet))
+    (fields-within of direction (without-coap of packet p.is_packet))
 
 its_bits : (of : Stack) (direction : Direction) (packet : List ℕ) (fields : List FieldValue)
     (from : ℕ) → FieldsOf of direction packet fields from
@@ -61,7 +61,7 @@ as_joined : (of : Stack) (direction : Direction) (packet : List ℕ) (fields : L
     → packet ≡ headers_and_payload of direction (listed of direction (field_bits direction packet))
     (drop from packet)
 as_joined of direction packet fields from p bytes =
-    let h : IsWithoutCoap of = without_coap of packet p.is_packet in
+    let h : IsWithoutCoap of = without-coap of packet p.is_packet in
     let values : FieldName → List Bool = field_bits direction packet in
     let same : fields ≡ listed of direction values = its_bits of direction packet fields from p in
     let right : first_held
@@ -69,7 +69,7 @@ as_joined of direction packet fields from p bytes =
     subst (λ (all : List FieldValue). first_held
     (value_refusals of all (length (drop from packet))) ≡ None) same
     (join_refusal-none of direction fields (length (drop from packet))
-    (joins_again of direction packet fields from p)).right
+    (joins-again of direction packet fields from p)).right
     in
     let wide : AreWide of values = wide_bits of direction packet fields from p in
     let other =
@@ -117,7 +117,7 @@ same_checksum direction v w payload vw ww b h this that a c e f l m rest =
     let lists : listed stack.IpUdp direction (summed 0 v) ≡ listed stack.IpUdp direction
     (summed 0 w) =
     listed-same (summed 0 v) (summed 0 w) (fields_in_packet_order stack.IpUdp direction)
-    (all_from (λ n. summed 0 v n ≡ summed 0 w n) (fields_in_packet_order stack.IpUdp direction)
+    (all-from (λ n. summed 0 v n ≡ summed 0 w n) (fields_in_packet_order stack.IpUdp direction)
     (λ n among. summed-same v w n (h n (from-order stack.IpUdp direction n tt among))))
     in
     let fronts : values_in direction (listed stack.IpUdp direction v) front_names ≡ values_in
@@ -168,9 +168,9 @@ restored-name rule direction packet restored fields from r covers p n among =
     PacketOf-fields of direction restored r.restored_fields r.payload_from covers.without
     r.is_restored in
     let same : r.fields ≡ fields =
-    (one_split of direction packet r.fields fields r.payload_from from own p).0 in
+    (one-split of direction packet r.fields fields r.payload_from from own p).0 in
     let value : field_bits direction restored n ≡ value_of r.restored_fields (field_of e.0) =
-    sym (listed_value of direction (field_bits direction restored) n covers.without among)
+    sym (listed-value of direction (field_bits direction restored) n covers.without among)
     ∙ ap (λ (all : List FieldValue). value_of all (at_name n))
     (sym (its_bits of direction restored r.restored_fields r.payload_from made))
     ∙ ap (value_of r.restored_fields) (sym e.2)
@@ -204,7 +204,7 @@ sums-same : (of : Stack) (direction : Direction) (this that : List ℕ) (f g : L
     → ((n : FieldName) → Contains (fields_of_stack of) n → Named this that direction n)
     → Contains (fields_of_stack of) UdpChecksum → checksum_of this ≡ checksum_of that
 sums-same stack.Ip direction this that f g here there p q rest a b named among =
-    let wrong : stack.Ip ≡ stack.IpUdp = udp_stack stack.Ip tt among in absurd (cc)
+    let wrong : stack.Ip ≡ stack.IpUdp = udp-stack stack.Ip tt among in absurd (cc)
 sums-same stack.IpUdp direction this that f g here there p q rest a b named among =
     same_checksum direction (field_bits direction this) (field_bits direction that) (drop here this)
     (wide_bits stack.IpUdp direction this f here p)
@@ -245,11 +245,11 @@ one-of of direction this that f g here there p q rest a b named =
     (field_bits direction that) =
     listed-same (field_bits direction this) (field_bits direction that)
     (fields_in_packet_order of direction)
-    (all_from (λ n. field_bits direction this n ≡ field_bits direction that n)
+    (all-from (λ n. field_bits direction this n ≡ field_bits direction that n)
     (fields_in_packet_order of direction)
     (λ n there_in.
     let among : Contains (fields_of_stack of) n =
-    from-order of direction n (without_coap of this p.is_packet) there_in in
+    from-order of direction n (without-coap of this p.is_packet) there_in in
     name-same of direction this that n (named n among)
     (sums-same of direction this that f g here there p q rest a b named) among))
     in

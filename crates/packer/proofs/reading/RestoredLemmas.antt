@@ -27,7 +27,7 @@ use Rattle.rule_model.specs.Residue.{value_of, residue_of, restored_value, resto
 use Rattle.rule_model.specs.Tests.{operator_holds}
 use Rattle.decompress.specs.Reading.{restore_at}
 use Rattle.decompress.proofs.SoundLemmas.{Passes}
-use Rattle.decompress.proofs.LawLemmas.{all_at, passes_at, Stands-from_read}
+use Rattle.decompress.proofs.LawLemmas.{all-at, passes-at, Stands-from_read}
 use Rattle.decompress.proofs.MatchedLemmas.{reads_back}
 use Rattle.ip_udp_fields.specs.Layout.{IsWithoutCoap, header_size, fields_in_packet_order}
 use Rattle.ip_udp_fields.specs.Fields.{at_name, field_in, fields_in, FieldsOf}
@@ -35,7 +35,7 @@ use Rattle.ip_udp_fields.specs.Checksum.{checksum_of}
 use Rattle.ip_udp_fields.specs.Join.{value_in, value_refusals}
 use Rattle.ip_udp_fields.proofs.JoinLemmas.{join_refusal-none}
 use Rattle.ip_udp_fields.proofs.RefusalLemmas.{header_size-is_packet}
-use Rattle.ip_udp_fields.proofs.SplitLemmas.{joins_again, without_coap}
+use Rattle.ip_udp_fields.proofs.SplitLemmas.{joins-again, without-coap}
 use Rattle.packer.specs.Packets.{computed_over}
 use Rattle.packer.specs.Schc.{is_computed_checksum, kept_value, IsRestored}
 use Rattle.packer.specs.Unpacking.{operator_fault, filled_value, size_after, filled_headers}
@@ -43,29 +43,29 @@ use Rattle.packer.specs.Unpacking.{body_of, packet_around, packet_of, packet_or,
 use Rattle.packer.specs.Unpacking.{rebuilt_from, reads}
 use Rattle.packer.specs.Rebuilding.{AreRestored, packet_behind_headers}
 use Rattle.packer.proofs.rebuilt.ListedLemmas.{plain-listed}
-use Rattle.packer.proofs.rebuilt.FilledLemmas.{header_tests-none, rebuilt_made, plain_made}
+use Rattle.packer.proofs.rebuilt.FilledLemmas.{header_tests-none, rebuilt-made, plain-made}
 use Rattle.packer.proofs.rebuilt.PlainLemmas.{body-plain}
-use Rattle.packer.proofs.CoverLemmas.{mapped_value, value_in-there, Covers, Covers-from_reads}
+use Rattle.packer.proofs.CoverLemmas.{mapped-value, value_in-there, Covers, Covers-from_reads}
 use Rattle.packer.proofs.rebuilt.RestoredHeadersLemmas.{header_values, headers-value, headers-found}
 use Rattle.packer.proofs.rebuilt.MadeLemmas.{AreRestored-from_Stands, made_value, IsMade}
-use Rattle.packer.proofs.rebuilt.MadeLemmas.{size_of_payload, made-packet}
+use Rattle.packer.proofs.rebuilt.MadeLemmas.{size-of-payload, made-packet}
 use Rattle.packer.proofs.PacketFieldsLemmas.{fields-PacketOf, reads-matching, field-named}
 use Rattle.packer.proofs.writing.SizedFieldsLemmas.{sized-packet}
 use Rattle.packer.proofs.reading.KeptLemmas.{filled-lossy, lossy-checksum, filled-kept}
 use Rattle.packer.proofs.reading.KeptLemmas.{holds-restored, agrees-at, needed-kept, none-held}
 
 -- the conditions on the values see few names
-pub value_refusals_by : (of : Stack) (a b : List FieldValue) (size : ℕ) → IsWithoutCoap of
+pub value_refusals-by : (of : Stack) (a b : List FieldValue) (size : ℕ) → IsWithoutCoap of
     → ((n : FieldName) → Contains (fields_of_stack of) n → is_needed n ≡ true
     → same_name n UdpChecksum ≡ false → value_in a n ≡ value_in b n)
     → value_refusals of a size ≡ value_refusals of b size
-value_refusals_by stack.Ip a b size w h =
+value_refusals-by stack.Ip a b size w h =
     rw (
       h IpVersion (0, omega arith, refl) refl refl,
       h IpPayloadLength (3, omega arith, refl) refl
           refl,
     ) refl
-value_refusals_by stack.IpUdp a b size w h =
+value_refusals-by stack.IpUdp a b size w h =
     rw (
       h IpVersion (0, omega arith, refl) refl refl,
       h IpPayloadLength (3, omega arith, refl) refl refl,
@@ -73,7 +73,7 @@ value_refusals_by stack.IpUdp a b size w h =
       h UdpLength (12, omega arith, refl) refl refl,
     )
     refl
-value_refusals_by stack.IpUdpCoap a b size w h = absurd w
+value_refusals-by stack.IpUdpCoap a b size w h = absurd w
 
 -- the fields of a packet under these names are of these names in their order, each at position 1
 pub ats : (direction : Direction) (packet : List ℕ) (names : List FieldName)
@@ -126,7 +126,7 @@ module _ (rule : RuleData) (iids : Iids) (direction : Direction) (packet : List 
 
   covering : Covers rule direction
   covering =
-      Covers-from_reads rule direction admitted (without_coap (stack_of rule) packet p.is_packet)
+      Covers-from_reads rule direction admitted (without-coap (stack_of rule) packet p.is_packet)
       reading
 
   long : header_size (stack_of rule) ≤ length packet
@@ -134,7 +134,7 @@ module _ (rule : RuleData) (iids : Iids) (direction : Direction) (packet : List 
 
   size : size_after (stack_of rule) (length (drop from packet)) ≡ length packet - 40
   size =
-      size_of_payload (stack_of rule) (length (drop from packet)) (length packet) covering.without
+      size-of-payload (stack_of rule) (length (drop from packet)) (length packet) covering.without
       long
       (length-drop from packet ∙ ap (λ n. length packet - n) p.its_payload)
 
@@ -142,7 +142,7 @@ module _ (rule : RuleData) (iids : Iids) (direction : Direction) (packet : List 
       → value_of (restored_fields rule iids direction fields) (field_of e) ≡ restored_value iids e
       (value_of fields (field_of e))
   restored e among =
-      mapped_value rule direction (λ d. restored_value iids d (value_of fields (field_of d))) e
+      mapped-value rule direction (λ d. restored_value iids d (value_of fields (field_of d))) e
       covering.apart among
 
   no_operator : first_held
@@ -155,7 +155,7 @@ module _ (rule : RuleData) (iids : Iids) (direction : Direction) (packet : List 
       ap not
       (ap (operator_holds e.operator e.targets) (restored e among)
       ∙ holds-restored iids (stack_of rule) (computed_over (stack_of rule) packet) e
-      (value_of fields (field_of e)) (passes_at rule direction admitted e among)
+      (value_of fields (field_of e)) (passes-at rule direction admitted e among)
       (agrees-at rule iids direction fields (computed_over (stack_of rule) packet) e matches
       among)))
 
@@ -181,12 +181,12 @@ module _ (rule : RuleData) (iids : Iids) (direction : Direction) (packet : List 
       (value_of (restored_fields rule iids direction fields) (field_of e.0))) size
       ∙ ap (filled_value (length packet - 40) e.0) (restored e.0 e.1)
       ∙ filled-kept iids (stack_of rule) packet e.0 (value_of fields (field_of e.0))
-      (passes_at rule direction admitted e.0 e.1) (λ c. (covering.each_entry e.0 e.1).0)
+      (passes-at rule direction admitted e.0 e.1) (λ c. (covering.each_entry e.0 e.1).0)
       (agrees-at rule iids direction fields (computed_over (stack_of rule) packet) e.0 matches e.1)
       lossy checksum
       ∙ ap (value_of fields) e.2
       in
-      all_at (λ m. value_in headers m ≡ Some
+      all-at (λ m. value_in headers m ≡ Some
       (header_values rule direction (restored_fields rule iids direction fields)
       (length (drop from packet)) m)) (fields_of_stack (stack_of rule))
       (headers-found rule direction (restored_fields rule iids direction fields)
@@ -198,10 +198,10 @@ module _ (rule : RuleData) (iids : Iids) (direction : Direction) (packet : List 
   right : first_held (value_refusals (stack_of rule) headers (length (drop from packet))) ≡ None
   right =
       ap first_held
-      (value_refusals_by (stack_of rule) headers fields (length (drop from packet))
+      (value_refusals-by (stack_of rule) headers fields (length (drop from packet))
       covering.without kept_name)
       ∙ (join_refusal-none (stack_of rule) direction fields (length (drop from packet))
-      (joins_again (stack_of rule) direction packet fields from p)).right
+      (joins-again (stack_of rule) direction packet fields from p)).right
 
   reads_fields : (rest : List Bool)
       → restore_at rule iids direction (residue_of rule direction fields ++ rest) ≡ Ok
@@ -226,10 +226,10 @@ module _ (rule : RuleData) (iids : Iids) (direction : Direction) (packet : List 
   unfolding packet_behind_headers
   rebuilt-restored =
       let all : List FieldValue = restored_fields rule iids direction fields in
-      rebuilt_made rule direction all (drop from packet) no_operator
+      rebuilt-made rule direction all (drop from packet) no_operator
       (plain-listed rule direction all admitted can_be_made
       (body_of (stack_of rule) all (drop from packet)) covering.without)
-      ∙ plain_made rule direction all (drop from packet) covering.without
+      ∙ plain-made rule direction all (drop from packet) covering.without
       ∙ ap (λ found. packet_or found (packet_around rule direction all (drop from packet)))
       (header_tests-none (stack_of rule) headers (length (drop from packet)) right)
       ∙ ap (λ body. Ok (packet_around rule direction all body))
@@ -251,7 +251,7 @@ module _ (rule : RuleData) (iids : Iids) (direction : Direction) (packet : List 
       subst (λ n. FieldsOf (stack_of rule) direction made m.its_fields n) here m.is_packet in
       let same_size : length made - 40 ≡ length packet - 40 =
       sym
-      (size_of_payload (stack_of rule) (length (drop from packet)) (length made) covering.without
+      (size-of-payload (stack_of rule) (length (drop from packet)) (length made) covering.without
       (header_size-is_packet (stack_of rule) made m.is_packet.is_packet)
       (ap (λ (bytes : List ℕ). length bytes) (sym m.its_payload)
       ∙ length-drop (header_size (stack_of rule)) made))
@@ -273,7 +273,7 @@ module _ (rule : RuleData) (iids : Iids) (direction : Direction) (packet : List 
             (value_of (restored_fields rule iids direction fields) (field_of e))) same_size
             ∙ ap (made_value (checksum_of made) (length packet - 40) e) (restored e among)
             ∙ made-kept iids (stack_of rule) packet e (value_of fields (field_of e))
-            (checksum_of made) (passes_at rule direction admitted e among)
+            (checksum_of made) (passes-at rule direction admitted e among)
             (λ c. (covering.each_entry e among).0)
             (agrees-at rule iids direction fields (computed_over (stack_of rule) packet) e matches
             among);

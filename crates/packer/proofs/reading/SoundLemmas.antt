@@ -40,7 +40,7 @@ use Rattle.rule_model.proofs.SizedLemmas.{Contains-first, Contains-rest}
 use Rattle.rule_model.proofs.TestLemmas.{operator_holds-true}
 use Rattle.decompress.specs.Reading.{restore_at}
 use Rattle.decompress.specs.Stands.{Stands}
-use Rattle.decompress.proofs.LawLemmas.{passes_at, Stands-from_read, value_of-own}
+use Rattle.decompress.proofs.LawLemmas.{passes-at, Stands-from_read, value_of-own}
 use Rattle.ip_udp_fields.specs.Checksum.{checksum_of}
 use Rattle.ip_udp_fields.specs.Join.{value_refusals}
 use Rattle.packer.specs.Packets.{computed_over}
@@ -50,14 +50,14 @@ use Rattle.packer.specs.Unpacking.{value_faults, packet_faults, filled_headers, 
 use Rattle.packer.specs.Unpacking.{packet_or, rebuilt, rebuilt_from, reads}
 use Rattle.packer.specs.Rebuilding.{AreRestored, HasOptions, header_tests, message_tests}
 use Rattle.packer.proofs.rebuilt.FilledLemmas.{value_refusals-none}
-use Rattle.packer.proofs.CoverLemmas.{Contains-map, passes_each, mapped_value}
+use Rattle.packer.proofs.CoverLemmas.{Contains-map, passes-each, mapped-value}
 use Rattle.packer.proofs.FirstPartsLemmas.{append-none}
 use Rattle.packer.proofs.rebuilt.MadeLemmas.{AreRestored-from_Stands, made_value}
 use Rattle.packer.proofs.rebuilt.PutLemmas.{IsPut, same-restored}
 use Rattle.packer.proofs.rebuilt.PutPacketLemmas.{put-packet}
 use Rattle.packer.proofs.rebuilt.ListedLemmas.{tried-listed}
 use Rattle.packer.proofs.reading.KeptLemmas.{compute-ignores, is_compute-true, filled-lossy}
-use Rattle.packer.proofs.reading.KeptLemmas.{lossy-checksum, length-computed, computed_names}
+use Rattle.packer.proofs.reading.KeptLemmas.{lossy-checksum, length-computed, computed-names}
 use Rattle.packer.proofs.reading.KeptLemmas.{each-fails}
 
 rebuilt_from-ok : (rule : RuleData) (direction : Direction)
@@ -140,13 +140,13 @@ compute_sends Compute kind operator targets this that h = refl
 compute_sends _ kind operator targets this that h = absurd (false≢true h)
 
 -- what is computed for the UDP checksum, in a stack that has it, is the checksum of the packet
-pub checksum_computed : (of : Stack) (packet : List ℕ) → Contains (fields_of_stack of) UdpChecksum
+pub checksum-computed : (of : Stack) (packet : List ℕ) → Contains (fields_of_stack of) UdpChecksum
     → computed_value (computed_over of packet) UdpChecksum ≡ Some (checksum_of packet)
-checksum_computed stack.Ip packet among =
+checksum-computed stack.Ip packet among =
     absurd (false≢true
-    (passes_each (λ n. not (same_name n UdpChecksum)) ip_fields refl UdpChecksum among))
-checksum_computed stack.IpUdp packet among = refl
-checksum_computed stack.IpUdpCoap packet among = refl
+    (passes-each (λ n. not (same_name n UdpChecksum)) ip_fields refl UdpChecksum among))
+checksum-computed stack.IpUdp packet among = refl
+checksum-computed stack.IpUdpCoap packet among = refl
 
 some_number : (o : Option ℕ) (value : List Bool) (number : ℕ) → o ≡ Some number
     → value ≡ number_bits 16 number → IfSome o (λ n. value ≡ number_bits 16 n)
@@ -189,12 +189,12 @@ made-computed of packet e value among computed c =
           some_number (computed_value (computed_over of packet) e.name)
           (made_value (checksum_of packet) (length packet - 40) e value) (checksum_of packet)
           (ap (computed_value (computed_over of packet)) name
-          ∙ checksum_computed of packet (subst (Contains (fields_of_stack of)) name among))
+          ∙ checksum-computed of packet (subst (Contains (fields_of_stack of)) name among))
           (rw sum refl)
       | inr f ↦
           let sum : is_computed_checksum e ≡ false = rw f refl in
           let names : (same_name e.name IpPayloadLength || same_name e.name UdpLength) ≡ true =
-          computed_names e.name
+          computed-names e.name
           (subst (λ a. is_computed_by a e.name ≡ true) (is_compute-true e.action c) computed) f
           in
           let with_lengths : is_computed_length e ≡ true = rw (c, names) refl in
@@ -229,7 +229,7 @@ module _ (rule : RuleData) (iids : Iids) (direction : Direction) (fields : List 
       → value e ≡ restored_value iids e (value e)
   stays e among =
       ap (λ (all : List FieldValue). value_of all (field_of e)) stands.restored
-      ∙ mapped_value rule direction (λ d. restored_value iids d (value d)) e
+      ∙ mapped-value rule direction (λ d. restored_value iids d (value d)) e
       (AreApart-from_IsAdmitted rule admitted) among
 
   operator : (e : EntryData) → Contains (covered rule direction) e
@@ -239,7 +239,7 @@ module _ (rule : RuleData) (iids : Iids) (direction : Direction) (fields : List 
         | inl c ↦
             subst (λ o. OperatorHolds o e.targets (new e))
             (sym (compute-ignores e.operator e.action
-            (passes_at rule direction admitted e among).pair c)) tt
+            (passes-at rule direction admitted e among).pair c)) tt
         | inr c ↦
             operator_holds-true e.operator e.targets (new e)
             (ap (operator_holds e.operator e.targets)
@@ -275,7 +275,7 @@ module _ (rule : RuleData) (iids : Iids) (direction : Direction) (fields : List 
         | inl c ↦
             computed_length e.name e.length (new e)
             (subst (λ a. is_computed_by a e.name ≡ true) (is_compute-true e.action c)
-            (passes_at rule direction admitted e among).computed)
+            (passes-at rule direction admitted e among).computed)
         | inr c ↦ subst (LengthHolds e.name e.length)
             (sym (made-plain (checksum_of packet) (length packet - 40) e (value e) c))
             (sendable e among)
@@ -291,7 +291,7 @@ module _ (rule : RuleData) (iids : Iids) (direction : Direction) (fields : List 
             restored_by_action iids (computed_over (stack_of rule) packet) e.name e.action (new e)
             (λ a. made-computed (stack_of rule) packet e (value e)
             (made.computed e among (ap is_compute a))
-            (passes_at rule direction admitted e among).computed (ap is_compute a))
+            (passes-at rule direction admitted e among).computed (ap is_compute a))
             (λ a. made_by e DevIid among a refl)
             (λ a. made_by e AppIid among a refl);
       }

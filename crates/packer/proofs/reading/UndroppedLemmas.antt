@@ -28,7 +28,7 @@ use Rattle.packer.specs.Laws.{KeepsWhereNothingIsDropped}
 use Rattle.packer.proofs.CoverLemmas.{Contains-map}
 use Rattle.packer.proofs.PacketFieldsLemmas.{named-field}
 use Rattle.packer.proofs.reading.KeptLemmas.{compute-made, agrees-at}
-use Rattle.packer.proofs.reading.SoundLemmas.{checksum_computed}
+use Rattle.packer.proofs.reading.SoundLemmas.{checksum-computed}
 use Rattle.packer.proofs.reading.ReadBackLemmas.{restored-one}
 
 none_without : {X : Type 0} (more : Bool) (xs : List X) (x : X)
@@ -76,7 +76,7 @@ checksum_at : (of : Stack) (direction : Direction) (packet : List ℕ) (fields :
 checksum_at stack.Ip direction packet fields from f p among e =
     let named = named-field stack.Ip direction packet fields from f p among in
     let name : named.0 ≡ UdpChecksum = ap (λ (g : FieldValue). g.at.name) named.2 ∙ e in
-    checksum_computed stack.Ip packet (subst (Contains (fields_of_stack stack.Ip)) name named.1)
+    checksum-computed stack.Ip packet (subst (Contains (fields_of_stack stack.Ip)) name named.1)
 checksum_at stack.IpUdp direction packet fields from f p among e = refl
 checksum_at stack.IpUdpCoap direction packet fields from f p among e = refl
 

@@ -39,7 +39,7 @@ use Rattle.packer.specs.Unpacking.{reads, rebuilt_from, read_by, read_whole, rea
 use Rattle.packer.specs.Unpacking.{unpacked}
 use Rattle.packer.specs.Rebuilding.{is_option_at, HasOptions, HasOptionsUnder, EditionHasOptions}
 use Rattle.packer.specs.Laws.{IsSound, UnpacksExactly}
-use Rattle.packer.proofs.CoverLemmas.{Contains-parts, each_passes, passes_each}
+use Rattle.packer.proofs.CoverLemmas.{Contains-parts, each-passes, passes-each}
 use Rattle.packer.proofs.rebuilt.ChecksumLemmas.{AreBytes-drop}
 use Rattle.packer.proofs.SplitLemmas.{packet-both}
 use Rattle.packer.proofs.reading.RestoredLemmas.{IsReadBack}
@@ -383,9 +383,9 @@ complete edition iids direction bits packet id s (by_rule other listed bytes dif
 options_under : (edition : EditionData) (direction : Direction) (id : ℕ) → EditionHasOptions edition
     → HasOptionsUnder edition direction id
 options_under edition direction id options listed found =
-    each_passes (λ e. is_option_at e.name e.position) (covered listed.rule direction)
+    each-passes (λ e. is_option_at e.name e.position) (covered listed.rule direction)
     (λ e among.
-    passes_each (λ d. is_option_at d.name d.position) listed.rule.entries
+    passes-each (λ d. is_option_at d.name d.position) listed.rule.entries
     (options listed (found-listed edition.rules id listed found).0) e
     (unfilter (λ d. covers d.direction direction) listed.rule.entries e among).0)
 

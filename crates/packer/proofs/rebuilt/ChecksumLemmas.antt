@@ -173,9 +173,9 @@ AreBytes-with_checksum packet a =
     (omega arith, (omega arith, AreBytes-drop 48 packet a))
 
 -- values that have the widths of the fields of UDP have them with another checksum too
-pub summed_wide : (checksum : ℕ) (values : FieldName → List Bool) → AreWide stack.IpUdp values
+pub summed-wide : (checksum : ℕ) (values : FieldName → List Bool) → AreWide stack.IpUdp values
     → AreWide stack.IpUdp (summed checksum values)
-summed_wide checksum values
+summed-wide checksum values
     (a, (b, (c, (d, (e, (f, (g, (h, (i, (j, (k, (l, (m, (n, u)))))))))))))) = (
       a,
       (
@@ -207,7 +207,7 @@ with_checksum-listed direction values payload w b rest =
     let checksum : ℕ = checksum_of packet in
     let front : List Bool = values_in direction (listed stack.IpUdp direction values) front_names in
     let new : FieldName → List Bool = summed checksum values in
-    let new_wide : AreWide stack.IpUdp new = summed_wide checksum values w in
+    let new_wide : AreWide stack.IpUdp new = summed-wide checksum values w in
     let taken : octets (take 46 packet) ≡ front = front-listed direction values payload w in
     let written : octets
     (take 46 packet ++ (two_bytes checksum ++ drop 48 packet)) ≡ front ++ (number_bits 16

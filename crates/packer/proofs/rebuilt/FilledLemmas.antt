@@ -46,16 +46,16 @@ header_tests-some of fields size fault why e w =
     ∙ sym (first_held-map wrong_field (value_refusals of fields size))
 
 -- where there is no fault of the packet, there was none of joining
-pub none_of : (o : Option JoinFault) → option_map wrong_field o ≡ None → o ≡ None
-none_of None e = refl
-none_of (Some fault) e = absurd (cc)
+pub none-of : (o : Option JoinFault) → option_map wrong_field o ≡ None → o ≡ None
+none-of None e = refl
+none-of (Some fault) e = absurd (cc)
 
 -- where nothing is wrong with the headers, their values are right
 pub value_refusals-none : (of : Stack) (fields : List FieldValue) (size : ℕ)
     → first_held (header_tests of fields size) ≡ None
     → first_held (value_refusals of fields size) ≡ None
 value_refusals-none of fields size e =
-    none_of (first_held (value_refusals of fields size))
+    none-of (first_held (value_refusals of fields size))
     (sym (first_held-map wrong_field (value_refusals of fields size)) ∙ e)
 
 -- where the values of the headers are right, their tests find nothing wrong
@@ -66,12 +66,12 @@ header_tests-none of fields size e = first_held-map wrong_field (value_refusals 
     ∙ ap (option_map wrong_field) e
 
 -- the fault of the first operator that fails
-pub rebuilt_operator : (rule : RuleData) (direction : Direction) (fields : List FieldValue)
+pub rebuilt-operator : (rule : RuleData) (direction : Direction) (fields : List FieldValue)
     (payload : List ℕ) (fault : UnpackFault)
     → first_held (map (operator_fault fields) (covered rule direction)) ≡ Some fault
     → rebuilt rule direction fields payload ≡ Err fault
 unfolding packet_faults
-rebuilt_operator rule direction fields payload fault e =
+rebuilt-operator rule direction fields payload fault e =
     ap (λ found. packet_or found (packet_of rule direction fields payload))
     (first_held-append_some (map (operator_fault fields) (covered rule direction))
     (map (λ condition. (condition.0, wrong_field condition.1))
@@ -80,7 +80,7 @@ rebuilt_operator rule direction fields payload fault e =
 
 -- where none fails, what is tried of the message and the headers decides, if it comes to what is
 -- listed
-pub rebuilt_made : (rule : RuleData) (direction : Direction) (fields : List FieldValue)
+pub rebuilt-made : (rule : RuleData) (direction : Direction) (fields : List FieldValue)
     (payload : List ℕ) → first_held (map (operator_fault fields) (covered rule direction)) ≡ None
     → first_held
     (made_tests rule direction fields (body_of (stack_of rule) fields payload)) ≡ first_held
@@ -88,7 +88,7 @@ pub rebuilt_made : (rule : RuleData) (direction : Direction) (fields : List Fiel
     (value_faults rule direction fields (length (body_of (stack_of rule) fields payload))))
     → rebuilt rule direction fields payload ≡ packet_of_values rule direction fields payload
 unfolding packet_faults packet_of_values
-rebuilt_made rule direction fields payload e same =
+rebuilt-made rule direction fields payload e same =
     ap (λ found. packet_or found (packet_of rule direction fields payload))
     (first_held-append_none (map (operator_fault fields) (covered rule direction))
     (map (λ condition. (condition.0, wrong_field condition.1))
@@ -96,12 +96,12 @@ rebuilt_made rule direction fields payload e same =
     ∙ sym same)
 
 -- a fault of the message
-pub made_message : (rule : RuleData) (direction : Direction) (fields : List FieldValue)
+pub made-message : (rule : RuleData) (direction : Direction) (fields : List FieldValue)
     (payload : List ℕ) (fault : UnpackFault)
     → first_held (message_tests (stack_of rule) fields) ≡ Some fault
     → packet_of_values rule direction fields payload ≡ Err fault
 unfolding packet_of_values
-made_message rule direction fields payload fault e =
+made-message rule direction fields payload fault e =
     let body : List ℕ = body_of (stack_of rule) fields payload in
     ap (λ found. packet_or found (packet_of rule direction fields payload))
     (first_held-append_some (message_tests (stack_of rule) fields)
@@ -109,12 +109,12 @@ made_message rule direction fields payload fault e =
     (length body)) fault e)
 
 -- where there is none, the headers decide
-pub made_headed : (rule : RuleData) (direction : Direction) (fields : List FieldValue)
+pub made-headed : (rule : RuleData) (direction : Direction) (fields : List FieldValue)
     (payload : List ℕ) → first_held (message_tests (stack_of rule) fields) ≡ None
     → packet_of_values rule direction fields payload ≡ packet_behind_headers rule direction fields
     (body_of (stack_of rule) fields payload)
 unfolding packet_of_values packet_behind_headers
-made_headed rule direction fields payload e =
+made-headed rule direction fields payload e =
     let body : List ℕ = body_of (stack_of rule) fields payload in
     ap (λ found. packet_or found (packet_of rule direction fields payload))
     (first_held-append_none (message_tests (stack_of rule) fields)
@@ -148,24 +148,24 @@ message_tests-none fields f m = message_tests-behind fields f ∙ ap (option_map
 
 -- with CoAP, where nothing is wrong with the message, the packet is made of the headers and the
 -- message behind them, or has their first fault
-pub coap_made : (rule : RuleData) (direction : Direction) (fields : List FieldValue)
+pub coap-made : (rule : RuleData) (direction : Direction) (fields : List FieldValue)
     (payload message : List ℕ) → stack_of rule ≡ stack.IpUdpCoap
     → first_held (message_tests stack.IpUdpCoap fields) ≡ None
     → message ≡ body_of stack.IpUdpCoap fields payload
     → packet_of_values rule direction fields payload ≡ packet_behind_headers rule direction fields
     message
-coap_made rule direction fields payload message s none m =
-    made_headed rule direction fields payload
+coap-made rule direction fields payload message s none m =
+    made-headed rule direction fields payload
     (ap (λ of. first_held (message_tests of fields)) s ∙ none)
     ∙ ap (packet_behind_headers rule direction fields)
     (ap (λ of. body_of of fields payload) s ∙ sym m)
 
 -- and without
-pub plain_made : (rule : RuleData) (direction : Direction) (fields : List FieldValue)
+pub plain-made : (rule : RuleData) (direction : Direction) (fields : List FieldValue)
     (payload : List ℕ) → IsWithoutCoap (stack_of rule)
     → packet_of_values rule direction fields payload ≡ packet_behind_headers rule direction fields
     payload
-plain_made rule direction fields payload h =
-    made_headed rule direction fields payload
+plain-made rule direction fields payload h =
+    made-headed rule direction fields payload
     (ap first_held (faults-plain (stack_of rule) fields h))
     ∙ ap (packet_behind_headers rule direction fields) (body-plain (stack_of rule) fields payload h)

@@ -25,7 +25,7 @@ use Rattle.rule_model.specs.First.{first_held}
 use Rattle.rule_model.specs.Residue.{value_of}
 use Rattle.rule_model.proofs.EntryRowsLemmas.{AreApart, AreApart-from_IsAdmitted}
 use Rattle.rule_model.proofs.EntryRowsLemmas.{EntryHolds-from_IsAdmitted}
-use Rattle.decompress.proofs.LawLemmas.{all_from, unfilter}
+use Rattle.decompress.proofs.LawLemmas.{all-from, unfilter}
 use Rattle.ip_udp_fields.specs.Layout.{bits_of}
 use Rattle.ip_udp_fields.specs.Fields.{at_name, IsUdp, IsPacketOf}
 use Rattle.ip_udp_fields.specs.Join.{value_in, value_refusals}
@@ -34,11 +34,11 @@ use Rattle.packer.specs.Unpacking.{filled_headers, headers_and_payload, fixed_he
 use Rattle.packer.specs.Rebuilding.{AreRestored, header_tests}
 use Rattle.packer.proofs.rebuilt.FilledLemmas.{value_refusals-none}
 use Rattle.packer.proofs.rebuilt.PlainLemmas.{fixed-without, value_refusals-fixed}
-use Rattle.packer.proofs.CoverLemmas.{Contains-map, passes_each, passes_some, some_passes}
-use Rattle.packer.proofs.CoverLemmas.{mapped_value, value_in-there, no_option, first_position}
+use Rattle.packer.proofs.CoverLemmas.{Contains-map, passes-each, passes-some, some-passes}
+use Rattle.packer.proofs.CoverLemmas.{mapped-value, value_in-there, no-option, first-position}
 use Rattle.packer.proofs.rebuilt.JoinedLemmas.{AreFound, AreWide, joined-packet}
-use Rattle.packer.proofs.rebuilt.RestoredHeadersLemmas.{header_values, filled_wide, width_known}
-use Rattle.packer.proofs.rebuilt.RestoredHeadersLemmas.{names_wide}
+use Rattle.packer.proofs.rebuilt.RestoredHeadersLemmas.{header_values, filled-wide, width-known}
+use Rattle.packer.proofs.rebuilt.RestoredHeadersLemmas.{names-wide}
 
 -- each field of the headers that stand at fixed places has its entry
 pub record Heads (rule : RuleData) (direction : Direction) : Type 0 where
@@ -48,11 +48,11 @@ pub record Heads (rule : RuleData) (direction : Direction) : Type 0 where
       × Contains (covered rule direction) e × (field_of e ≡ at_name name)
 
 -- a packet of the stack has all these fields
-pub fixed_among : (of : Stack) (name : FieldName)
+pub fixed-among : (of : Stack) (name : FieldName)
     → Contains (fields_of_stack (fixed_headers of)) name → Contains (fields_of_stack of) name
-fixed_among stack.Ip name h = h
-fixed_among stack.IpUdp name h = h
-fixed_among stack.IpUdpCoap name h =
+fixed-among stack.Ip name h = h
+fixed-among stack.IpUdp name h = h
+fixed-among stack.IpUdpCoap name h =
     Contains-append_left (ip_fields ++ udp_fields) coap_fields name h
 
 head_entered : (rule : RuleData) (direction : Direction) (name : FieldName) → IsAdmitted rule
@@ -60,18 +60,18 @@ head_entered : (rule : RuleData) (direction : Direction) (name : FieldName) → 
     → (e : EntryData) × Contains (covered rule direction) e × (field_of e ≡ at_name name)
 head_entered rule direction name admitted s among =
     let some =
-    passes_some (λ e. same_name e.name name) (covered rule direction)
-    (passes_each (has_field rule direction) (fields_of_stack (stack_of rule)) s name
-    (fixed_among (stack_of rule) name among)) in
+    passes-some (λ e. same_name e.name name) (covered rule direction)
+    (passes-each (has_field rule direction) (fields_of_stack (stack_of rule)) s name
+    (fixed-among (stack_of rule) name among)) in
     let is : some.0.name ≡ name = same_name-true some.0.name name some.2 in
     let holds =
     EntryHolds-from_IsAdmitted rule admitted some.0
     (unfilter (λ d. covers d.direction direction) rule.entries some.0 some.1).0 in
     let option =
-    no_option name (fixed_headers (stack_of rule)) (fixed-without (stack_of rule))
-    (some_passes (same_name name) (fields_of_stack (fixed_headers (stack_of rule))) name among
+    no-option name (fixed_headers (stack_of rule)) (fixed-without (stack_of rule))
+    (some-passes (same_name name) (fields_of_stack (fixed_headers (stack_of rule))) name among
     (same_name-itself name)) in
-    (some.0, some.1, first_position some.0 holds.shape (ap is_option is ∙ option) ∙ ap at_name is)
+    (some.0, some.1, first-position some.0 holds.shape (ap is_option is ∙ option) ∙ ap at_name is)
 
 -- an admitted rule that serves the direction has an entry for each field of its headers at fixed
 -- places
@@ -92,7 +92,7 @@ pub heads-value : (rule : RuleData) (direction : Direction) (fields : List Field
     (size_after (stack_of rule) size) e (value_of fields (field_of e))
 unfolding with_lengths
 heads-value rule direction fields size e heads among =
-    mapped_value rule direction
+    mapped-value rule direction
     (λ d. filled_value (size_after (stack_of rule) size) d (value_of fields (field_of d))) e
     heads.apart among
 
@@ -103,7 +103,7 @@ pub heads-found : (rule : RuleData) (direction : Direction) (fields : List Field
     (filled_headers rule direction fields size)
 unfolding with_lengths
 heads-found rule direction fields size heads =
-    all_from
+    all-from
     (λ n. value_in (filled_headers rule direction fields size) n ≡ Some
     (header_values rule direction fields size n))
     (fields_of_stack (fixed_headers (stack_of rule)))
@@ -119,14 +119,14 @@ pub heads-wide : (rule : RuleData) (direction : Direction) (fields : List FieldV
     → Heads rule direction → AreRestored rule direction fields
     → AreWide (fixed_headers (stack_of rule)) (header_values rule direction fields size)
 heads-wide rule direction fields size heads restored =
-    all_from (λ n. length (header_values rule direction fields size n) ≡ bits_of n)
+    all-from (λ n. length (header_values rule direction fields size n) ≡ bits_of n)
     (fields_of_stack (fixed_headers (stack_of rule)))
     (λ n among.
     let e = heads.each_name n among in
     let name : e.0.name ≡ n = ap (λ (at : FieldAt). at.name) e.2 in
     let own : length (value_of fields (field_of e.0)) ≡ bits_of e.0.name =
-    width_known (width_of e.0.name) (value_of fields (field_of e.0))
-    (names_wide (fixed_headers (stack_of rule)) e.0.name (fixed-without (stack_of rule))
+    width-known (width_of e.0.name) (value_of fields (field_of e.0))
+    (names-wide (fixed_headers (stack_of rule)) e.0.name (fixed-without (stack_of rule))
     (subst (Contains (fields_of_stack (fixed_headers (stack_of rule)))) (sym name) among))
     (restored.widths e.0 e.1)
     in
@@ -136,7 +136,7 @@ heads-wide rule direction fields size heads restored =
     ∙ heads-value rule direction fields size e.0 heads e.1
     in
     ap (λ (bits : List Bool). length bits) value
-    ∙ filled_wide e.0 (size_after (stack_of rule) size) (value_of fields (field_of e.0)) own
+    ∙ filled-wide e.0 (size_after (stack_of rule) size) (value_of fields (field_of e.0)) own
     ∙ ap bits_of name)
 
 fixed_udp : (coap udp : Bool) → udp ≡ true
@@ -150,14 +150,14 @@ pub computes-fixed : (rule : RuleData) (direction : Direction)
     → computes_checksum rule direction ≡ true → fixed_headers (stack_of rule) ≡ stack.IpUdp
 computes-fixed rule direction h =
     let some =
-    passes_some (λ e. same_name e.name UdpChecksum && is_compute e.action)
+    passes-some (λ e. same_name e.name UdpChecksum && is_compute e.action)
     (covered rule direction) h in
     let parts = and_parts (same_name some.0.name UdpChecksum) (is_compute some.0.action) some.2 in
     let own : Contains rule.entries some.0 =
     (unfilter (λ d. covers d.direction direction) rule.entries some.0 some.1).0 in
     let name : some.0.name ≡ UdpChecksum = same_name-true some.0.name UdpChecksum parts.0 in
     fixed_udp (has_layer rule layer.Coap) (has_layer rule layer.Udp)
-    (some_passes (λ e. same_layer (layer_of e.name) layer.Udp) rule.entries some.0 own
+    (some-passes (λ e. same_layer (layer_of e.name) layer.Udp) rule.entries some.0 own
     (ap (λ n. same_layer (layer_of n) layer.Udp) name))
 
 -- the joined headers are those of a UDP datagram, where a checksum is computed

@@ -19,7 +19,7 @@ use Rattle.ip_udp_fields.specs.Fields.{FieldsOf}
 use Rattle.ip_udp_fields.specs.Join.{value_in, value_of, presence, order, value_refusals}
 use Rattle.ip_udp_fields.specs.Join.{join_refusal, values_in, header_bits}
 use Rattle.ip_udp_fields.proofs.OrderLemmas.{with_value}
-use Rattle.ip_udp_fields.proofs.SpanLemmas.{mirror, to_packet_order}
+use Rattle.ip_udp_fields.proofs.SpanLemmas.{mirror, to-packet-order}
 use Rattle.ip_udp_fields.proofs.JoinLemmas.{joined-fields, joined-payload, joined-bytes}
 use Rattle.ip_udp_fields.proofs.SplitLemmas.{present}
 use Rattle.packer.specs.Unpacking.{headers_and_payload}
@@ -135,9 +135,9 @@ listed-none of direction v size h wide right =
     let all : List FieldValue = listed of direction v in
     first_held-append_none (presence all names) (order names all ++ value_refusals of all size)
     (present all v names
-    (to_packet_order (λ n. value_in all n ≡ Some (v n)) of direction h
+    (to-packet-order (λ n. value_in all n ≡ Some (v n)) of direction h
     (found-listed of direction v h))
-    (to_packet_order (λ n. length (v n) ≡ bits_of n) of direction h wide))
+    (to-packet-order (λ n. length (v n) ≡ bits_of n) of direction h wide))
     ∙ first_held-append_none (order names all) (value_refusals of all size)
     (ordered-listed of direction v h) ∙ right
 

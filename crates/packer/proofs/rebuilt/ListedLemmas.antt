@@ -36,7 +36,7 @@ use Rattle.rule_model.specs.Residue.{value_of}
 use Rattle.rule_model.proofs.EntryRowsLemmas.{EntryHolds, EntryHolds-from_IsAdmitted}
 use Rattle.rule_model.proofs.FirstLemmas.{first_held-append_none}
 use Rattle.rule_model.proofs.SizedLemmas.{Contains-first, Contains-rest}
-use Rattle.decompress.proofs.LawLemmas.{all_at, unfilter, value_of-own}
+use Rattle.decompress.proofs.LawLemmas.{all-at, unfilter, value_of-own}
 use Rattle.ip_udp_fields.specs.Layout.{IsWithoutCoap, bits_of}
 use Rattle.ip_udp_fields.specs.Fields.{at_name}
 use Rattle.ip_udp_fields.specs.Join.{value_in, is_number, has_number, value_refusals}
@@ -49,14 +49,14 @@ use Rattle.packer.specs.Unpacking.{value_faults}
 use Rattle.packer.specs.Rebuilding.{AreRestored, HasOptions, is_option_at, front_tests}
 use Rattle.packer.specs.Rebuilding.{header_tests, message_tests, made_tests}
 use Rattle.packer.proofs.coap.AscendLemmas.{AscendsAfter, ascends-once}
-use Rattle.packer.proofs.CoverLemmas.{fails_each, passes_each, passes_some, value_in-there}
-use Rattle.packer.proofs.CoverLemmas.{first_position}
-use Rattle.packer.proofs.rebuilt.FilledLemmas.{first_held-map, none_of}
+use Rattle.packer.proofs.CoverLemmas.{fails-each, passes-each, passes-some, value_in-there}
+use Rattle.packer.proofs.CoverLemmas.{first-position}
+use Rattle.packer.proofs.rebuilt.FilledLemmas.{first_held-map, none-of}
 use Rattle.packer.proofs.FirstPartsLemmas.{append-none}
 use Rattle.packer.proofs.rebuilt.HeadLemmas.{Heads, Heads-from_reads, heads-value, heads-found}
-use Rattle.packer.proofs.rebuilt.MadeLemmas.{and_false}
+use Rattle.packer.proofs.rebuilt.MadeLemmas.{and-false}
 use Rattle.packer.proofs.rebuilt.PutLemmas.{same-restored}
-use Rattle.packer.proofs.rebuilt.RestoredHeadersLemmas.{header_values, width_known}
+use Rattle.packer.proofs.rebuilt.RestoredHeadersLemmas.{header_values, width-known}
 use Rattle.packer.proofs.coap.SortLemmas.{message-member, member-message, message-ordered}
 use Rattle.packer.proofs.rebuilt.WholeLemmas.{whole-stands}
 
@@ -154,7 +154,7 @@ entry_possible e h c at =
     (nat_lt 1 e.position && not (is_option e.name)) h in
     possible_by e.name e.position c
     (or_parts (not (is_length_of e.name e.length)) (e.position == 0) parts.0).1
-    (λ o. ap (λ (place : FieldAt). place.position) (first_position e h o)) at
+    (λ o. ap (λ (place : FieldAt). place.position) (first-position e h o)) at
 
 module _ (rule : RuleData) (direction : Direction) (fields : List FieldValue)
     (admitted : IsAdmitted rule) (restored : AreRestored rule direction fields) where
@@ -186,7 +186,7 @@ module _ (rule : RuleData) (direction : Direction) (fields : List FieldValue)
       let is : e.0.name ≡ name = ap (λ (at : FieldAt). at.name) e.2 in
       let plain : filled_value (size_after (stack_of rule) size) e.0
       (value_of fields (field_of e.0)) ≡ value_of fields (field_of e.0) =
-      rw (is, other, and_false (is_compute e.0.action)) refl
+      rw (is, other, and-false (is_compute e.0.action)) refl
       in
       let value : value_of (filled_headers rule direction fields size) (at_name name) ≡ value_of
       fields (at_name name) =
@@ -195,7 +195,7 @@ module _ (rule : RuleData) (direction : Direction) (fields : List FieldValue)
       in
       let found : value_in (filled_headers rule direction fields size) name ≡ Some
       (value_of fields (at_name name)) =
-      all_at (λ m. value_in (filled_headers rule direction fields size) m ≡ Some
+      all-at (λ m. value_in (filled_headers rule direction fields size) m ≡ Some
       (header_values rule direction fields size m))
       (fields_of_stack (fixed_headers (stack_of rule)))
       (heads-found rule direction fields size heads) name among
@@ -267,24 +267,24 @@ module _ (rule : RuleData) (direction : Direction) (fields : List FieldValue)
       (Contains-append_right (ip_fields ++ udp_fields) coap_fields name among)
       in
       let some =
-      passes_some (λ e. same_name e.name name) (covered rule direction)
-      (passes_each (has_field rule direction) (fields_of_stack (stack_of rule)) restored.reading
+      passes-some (λ e. same_name e.name name) (covered rule direction)
+      (passes-each (has_field rule direction) (fields_of_stack (stack_of rule)) restored.reading
       name listed) in
       let is : some.0.name ≡ name = same_name-true some.0.name name some.2 in
       let option : is_option some.0.name ≡ false = ap is_option is
-      ∙ fails_each is_option coap_fields refl name among in
+      ∙ fails-each is_option coap_fields refl name among in
       let place : field_of some.0 ≡ at_name name =
-      first_position some.0 (holds_at some.0 some.1).shape option ∙ ap at_name is in
+      first-position some.0 (holds_at some.0 some.1).shape option ∙ ap at_name is in
       let f = same.each_entry some.0 some.1 in
       let at : f.0.at ≡ at_name name = sym f.2 ∙ place in
       let coap : same_layer (layer_of f.0.at.name) layer.Coap ≡ true =
       ap (λ (x : FieldAt). same_layer (layer_of x.name) layer.Coap) at
-      ∙ passes_each (λ n. same_layer (layer_of n) layer.Coap) coap_fields refl name among
+      ∙ passes-each (λ n. same_layer (layer_of n) layer.Coap) coap_fields refl name among
       in
       let width : length f.0.value ≡ bits_of f.0.at.name =
-      width_known (width_of f.0.at.name) f.0.value
+      width-known (width_of f.0.at.name) f.0.value
       (ap (λ (x : FieldAt). is_some (width_of x.name)) at
-      ∙ passes_each (λ n. is_some (width_of n)) coap_fields refl name among)
+      ∙ passes-each (λ n. is_some (width_of n)) coap_fields refl name among)
       (restored.stands.sized.width_holds f.0 f.1)
       in
       (f.0, member-message fields f.0 f.1 coap, at, width ∙ ap (λ (x : FieldAt). bits_of x.name) at)
@@ -298,7 +298,7 @@ module _ (rule : RuleData) (direction : Direction) (fields : List FieldValue)
       ap (λ (x : FieldAt). same_layer (layer_of x.name) layer.Coap) e.2 ∙ member.1 in
       subst (λ (x : FieldAt). is_possible x.name x.position ≡ true) e.2
       (entry_possible e.0 (holds_at e.0 e.1).shape coap
-      (passes_each (λ d. is_option_at d.name d.position) (covered rule direction) options e.0
+      (passes-each (λ d. is_option_at d.name d.position) (covered rule direction) options e.0
       e.1))
 
   whole : (f : FieldValue) → Contains mine f → is_whole f.at.name f.value ≡ true
@@ -404,7 +404,7 @@ module _ (rule : RuleData) (direction : Direction) (fields : List FieldValue)
       (length body) in
       let values = message_value_refusals mine ++ gaps 0 0 mine in
       let both : first_held (front_tests fields ++ message_refusals mine) ≡ None =
-      none_of (first_held (front_tests fields ++ message_refusals mine))
+      none-of (first_held (front_tests fields ++ message_refusals mine))
       (sym (first_held-map wrong_field (front_tests fields ++ message_refusals mine)) ∙ message)
       in
       let front = append-none (front_tests fields) (message_refusals mine) both in

@@ -21,7 +21,7 @@ use Rattle.rule_model.specs.Cover.{covered, field_of, stack_of, is_compute, comp
 use Rattle.rule_model.specs.First.{first_held}
 use Rattle.rule_model.specs.Residue.{value_of, restored_field, WidthHolds}
 use Rattle.decompress.specs.Stands.{Stands}
-use Rattle.decompress.proofs.LawLemmas.{all_at, value_of-there}
+use Rattle.decompress.proofs.LawLemmas.{all-at, value_of-there}
 use Rattle.ip_udp_fields.specs.Layout.{IsWithoutCoap, header_size}
 use Rattle.ip_udp_fields.specs.Fields.{at_name, FieldsOf}
 use Rattle.ip_udp_fields.specs.Checksum.{checksum_of}
@@ -32,12 +32,12 @@ use Rattle.packer.specs.Unpacking.{filled_value, size_after, filled_headers, wit
 use Rattle.packer.specs.Unpacking.{headers_and_payload, packet_of, reads}
 use Rattle.packer.specs.Rebuilding.{AreRestored}
 use Rattle.packer.proofs.rebuilt.PlainLemmas.{packet_of-plain}
-use Rattle.packer.proofs.CoverLemmas.{Contains-map, passes_some, some_passes, same_entry}
+use Rattle.packer.proofs.CoverLemmas.{Contains-map, passes-some, some-passes, same_entry}
 use Rattle.packer.proofs.CoverLemmas.{value_of-value_in, Covers}
 use Rattle.packer.proofs.rebuilt.JoinedLemmas.{listed, AreFound, AreWide, found-listed}
 use Rattle.packer.proofs.rebuilt.JoinedLemmas.{value_refusals-same, joined-listed, joined-packet}
 use Rattle.packer.proofs.rebuilt.JoinedLemmas.{joined-rest, AreBytes-joined}
-use Rattle.packer.proofs.rebuilt.ChecksumLemmas.{summed, summed_wide, with_checksum-listed}
+use Rattle.packer.proofs.rebuilt.ChecksumLemmas.{summed, summed-wide, with_checksum-listed}
 use Rattle.packer.proofs.rebuilt.ChecksumLemmas.{checksum-with_checksum}
 use Rattle.packer.proofs.rebuilt.RestoredHeadersLemmas.{header_values, headers-value, headers-found}
 use Rattle.packer.proofs.rebuilt.RestoredHeadersLemmas.{headers-wide, computes-stack}
@@ -107,7 +107,7 @@ made_summed direction values payload w right b h =
     headers_and_payload stack.IpUdp direction (listed stack.IpUdp direction values) payload in
     let checksum : ℕ = checksum_of packet in
     let new : FieldName → List Bool = summed checksum values in
-    let wide : AreWide stack.IpUdp new = summed_wide checksum values w in
+    let wide : AreWide stack.IpUdp new = summed-wide checksum values w in
     let same : with_checksum packet ≡ headers_and_payload stack.IpUdp direction
     (listed stack.IpUdp direction new) payload =
     with_checksum-listed direction values payload w b h.its_payload in
@@ -153,7 +153,7 @@ made_plain of direction values payload h w right b =
 
 -- values of the right widths, of which none is wrong, make with the payload a packet that has them,
 -- and the checksum of the packet where that is computed
-pub made_values : (of : Stack) (direction : Direction) (computes : Bool)
+pub made-values : (of : Stack) (direction : Direction) (computes : Bool)
     (values : FieldName → List Bool) (payload : List ℕ) → IsWithoutCoap of
     → (computes ≡ true → of ≡ stack.IpUdp) → AreWide of values
     → first_held (value_refusals of (listed of direction values) (length payload)) ≡ None
@@ -164,14 +164,14 @@ pub made_values : (of : Stack) (direction : Direction) (computes : Bool)
     (summed_if computes (headers_and_payload of direction (listed of direction values) payload)))
     values) payload
     (summed_if computes (headers_and_payload of direction (listed of direction values) payload))
-made_values of direction false values payload h s w right b =
+made-values of direction false values payload h s w right b =
     made_plain of direction values payload h w right b
-made_values stack.Ip direction true values payload h s w right b =
+made-values stack.Ip direction true values payload h s w right b =
     let wrong : stack.Ip ≡ stack.IpUdp = s refl in absurd (cc)
-made_values stack.IpUdp direction true values payload h s w right b =
+made-values stack.IpUdp direction true values payload h s w right b =
     made_summed direction values payload w right b
     (made_plain stack.IpUdp direction values payload tt w right b)
-made_values stack.IpUdpCoap direction true values payload h s w right b = absurd h
+made-values stack.IpUdpCoap direction true values payload h s w right b = absurd h
 
 -- what stands in the packet for an entry
 abbrev pub made_value : ℕ → ℕ → EntryData → List Bool → List Bool
@@ -191,14 +191,14 @@ pub record IsMade (rule : RuleData) (direction : Direction) (fields : List Field
       (value_of fields (field_of e))
 
 -- nothing holds together with what doesn't
-pub and_false : (a : Bool) → (a && false) ≡ false
-and_false true = refl
-and_false false = refl
+pub and-false : (a : Bool) → (a && false) ≡ false
+and-false true = refl
+and-false false = refl
 
 -- what holds besides changes nothing
-pub and_true : (a : Bool) → (a && true) ≡ a
-and_true true = refl
-and_true false = refl
+pub and-true : (a : Bool) → (a && true) ≡ a
+and-true true = refl
+and-true false = refl
 
 -- the checksum is computed where its entry computes it
 pub checksum-choice : (rule : RuleData) (direction : Direction) (e : EntryData)
@@ -211,13 +211,13 @@ checksum-choice rule direction e covers among =
           let choice : computes_checksum rule direction ≡ is_compute e.action =
           elim (cases_Bool (is_compute e.action)) [
             | inl c ↦
-                some_passes (λ d. same_name d.name UdpChecksum && is_compute d.action)
+                some-passes (λ d. same_name d.name UdpChecksum && is_compute d.action)
                 (covered rule direction) e among
                 (and_from (same_name e.name UdpChecksum) (is_compute e.action) t c) ∙ sym c
             | inr c ↦
                 false_from_ne_true (computes_checksum rule direction)
                 (λ computes.
-                let d = passes_some (λ d. same_name d.name UdpChecksum && is_compute d.action)
+                let d = passes-some (λ d. same_name d.name UdpChecksum && is_compute d.action)
                 (covered rule direction) computes in
                 let parts =
                 and_parts (same_name d.0.name UdpChecksum) (is_compute d.0.action) d.2 in
@@ -233,8 +233,8 @@ checksum-choice rule direction e covers among =
                 ∙ sym c
           ]
           in
-          rw t (and_true (computes_checksum rule direction) ∙ choice)
-      | inr f ↦ rw f (and_false (computes_checksum rule direction))
+          rw t (and-true (computes_checksum rule direction) ∙ choice)
+      | inr f ↦ rw f (and-false (computes_checksum rule direction))
     ]
 
 -- one choice within another, where both else are the same, is the choice of both together
@@ -244,20 +244,20 @@ chosen true b x y = refl
 chosen false b x y = refl
 
 -- without CoAP, as many bytes follow the IPv6 header as the payload has, and with UDP 8 more
-pub size_of_payload : (of : Stack) (size all : ℕ) → IsWithoutCoap of → header_size of ≤ all
+pub size-of-payload : (of : Stack) (size all : ℕ) → IsWithoutCoap of → header_size of ≤ all
     → size ≡ all - header_size of → size_after of size ≡ all - 40
-size_of_payload stack.Ip size all h l e = e
-size_of_payload stack.IpUdp size all h l e = omega (arith, e, l)
-size_of_payload stack.IpUdpCoap size all h l e = absurd h
+size-of-payload stack.Ip size all h l e = e
+size-of-payload stack.IpUdp size all h l e = omega (arith, e, l)
+size-of-payload stack.IpUdpCoap size all h l e = absurd h
 
 -- the value of a listed name
-pub listed_value : (of : Stack) (direction : Direction) (values : FieldName → List Bool)
+pub listed-value : (of : Stack) (direction : Direction) (values : FieldName → List Bool)
     (name : FieldName) → IsWithoutCoap of → Contains (fields_of_stack of) name
     → value_of (listed of direction values) (at_name name) ≡ values name
-listed_value of direction values name h among =
+listed-value of direction values name h among =
     value_of-value_in (listed of direction values) name
     ∙ ap (λ o. unwrap_or o [])
-    (all_at (λ n. value_in (listed of direction values) n ≡ Some (values n)) (fields_of_stack of)
+    (all-at (λ n. value_in (listed of direction values) n ≡ Some (values n)) (fields_of_stack of)
     (found-listed of direction values h) name among)
 
 IsMade-from_values : (rule : RuleData) (direction : Direction) (fields : List FieldValue)
@@ -272,7 +272,7 @@ IsMade-from_values rule direction fields payload packet covers h =
     let all : FieldName → List Bool =
     final (computes_checksum rule direction) (checksum_of packet) values in
     let size : size_after of (length payload) ≡ length packet - 40 =
-    size_of_payload of (length payload) (length packet) covers.without
+    size-of-payload of (length payload) (length packet) covers.without
     (header_size-is_packet of packet h.is_packet.is_packet)
     (ap (λ (bytes : List ℕ). length bytes) (sym h.its_payload)
     ∙ length-drop (header_size of) packet)
@@ -291,7 +291,7 @@ IsMade-from_values rule direction fields payload packet covers h =
           ∙ ap (λ n. filled_value n e (value_of fields (field_of e))) size
           in
           ap (value_of (listed of direction all)) place.1
-          ∙ listed_value of direction all e.name covers.without place.0
+          ∙ listed-value of direction all e.name covers.without place.0
           ∙ chosen (computes_checksum rule direction) (same_name e.name UdpChecksum)
           (number_bits 16 (checksum_of packet)) (values e.name)
           ∙ ap (λ b. if b then number_bits 16 (checksum_of packet) else values e.name)
@@ -320,7 +320,7 @@ made-packet rule direction fields payload covers restored right b =
     covers.without (found-listed of direction values covers.without) found) ∙ right
     in
     let has =
-    made_values of direction (computes_checksum rule direction) values payload covers.without
+    made-values of direction (computes_checksum rule direction) values payload covers.without
     (computes-stack rule direction covers)
     (headers-wide rule direction fields (length payload) covers restored) right_listed b in
     subst (IsMade rule direction fields payload)

@@ -24,7 +24,7 @@ use Rattle.packer.specs.Ordering.{message_fields}
 use Rattle.packer.specs.Unpacking.{filled_headers, body_of, wrong_field, packet_of}
 use Rattle.packer.specs.Rebuilding.{AreRestored, front_tests, message_tests}
 use Rattle.packer.proofs.FirstPartsLemmas.{append-none}
-use Rattle.packer.proofs.rebuilt.FilledLemmas.{first_held-map, none_of}
+use Rattle.packer.proofs.rebuilt.FilledLemmas.{first_held-map, none-of}
 use Rattle.packer.proofs.rebuilt.PlainLemmas.{body-plain}
 use Rattle.packer.proofs.CoverLemmas.{Covers, Covers-from_reads}
 use Rattle.packer.proofs.rebuilt.MadeLemmas.{made-packet}
@@ -47,7 +47,7 @@ pub message-right : (fields headers : List FieldValue) (payload : List ℕ)
 message-right fields headers payload h right =
     let mine : List FieldValue = message_fields fields in
     let both : first_held (front_tests fields ++ message_refusals mine) ≡ None =
-    none_of (first_held (front_tests fields ++ message_refusals mine))
+    none-of (first_held (front_tests fields ++ message_refusals mine))
     (sym (first_held-map wrong_field (front_tests fields ++ message_refusals mine)) ∙ h)
     in
     let n : ℕ = length (message_from mine payload) in

@@ -17,14 +17,14 @@ use Rattle.rule_model.specs.declared.value.FieldValue.{FieldValue}
 use Rattle.rule_model.specs.Data.{EntryData, RuleData}
 use Rattle.rule_model.specs.Cover.{covered, field_of, stack_of, is_compute, computes_checksum}
 use Rattle.rule_model.specs.Residue.{value_of}
-use Rattle.decompress.proofs.LawLemmas.{all_from}
+use Rattle.decompress.proofs.LawLemmas.{all-from}
 use Rattle.ip_udp_fields.specs.Layout.{IsWithoutCoap, bits_of}
 use Rattle.ip_udp_fields.specs.Fields.{at_name}
 use Rattle.ip_udp_fields.specs.Join.{value_in}
 use Rattle.packer.specs.Unpacking.{is_computed_length, filled_value, filled_field, with_lengths}
 use Rattle.packer.specs.Unpacking.{size_after, filled_headers}
 use Rattle.packer.specs.Rebuilding.{AreRestored}
-use Rattle.packer.proofs.CoverLemmas.{Contains-map, passes_each, passes_some, mapped_value}
+use Rattle.packer.proofs.CoverLemmas.{Contains-map, passes-each, passes-some, mapped-value}
 use Rattle.packer.proofs.CoverLemmas.{value_in-there, Covers}
 use Rattle.packer.proofs.rebuilt.JoinedLemmas.{AreFound, AreWide}
 
@@ -41,7 +41,7 @@ pub headers-value : (rule : RuleData) (direction : Direction) (fields : List Fie
     (size_after (stack_of rule) size) e (value_of fields (field_of e))
 unfolding with_lengths
 headers-value rule direction fields size e covers among =
-    mapped_value rule direction
+    mapped-value rule direction
     (λ d. filled_value (size_after (stack_of rule) size) d (value_of fields (field_of d))) e
     covers.apart among
 
@@ -52,7 +52,7 @@ pub headers-found : (rule : RuleData) (direction : Direction) (fields : List Fie
     (filled_headers rule direction fields size)
 unfolding with_lengths
 headers-found rule direction fields size covers =
-    all_from
+    all-from
     (λ n. value_in (filled_headers rule direction fields size) n ≡ Some
     (header_values rule direction fields size n)) (fields_of_stack (stack_of rule))
     (λ n among.
@@ -69,9 +69,9 @@ udp_width : (name : FieldName) → (name ≡ UdpLength) → bits_of name ≡ 16
 udp_width name e = ap bits_of e
 
 -- a length that is filled in has 16 bits
-pub filled_wide : (e : EntryData) (size : ℕ) (value : List Bool) → length value ≡ bits_of e.name
+pub filled-wide : (e : EntryData) (size : ℕ) (value : List Bool) → length value ≡ bits_of e.name
     → length (filled_value size e value) ≡ bits_of e.name
-filled_wide e size value l =
+filled-wide e size value l =
     elim (cases_Bool (is_computed_length e)) [
       | inl t ↦
           let parts =
@@ -90,32 +90,32 @@ filled_wide e size value l =
     ]
 
 -- a value that has the width of its field, where that has one, has as many bits
-pub width_known : (o : Option ℕ) (value : List Bool) → is_some o ≡ true
+pub width-known : (o : Option ℕ) (value : List Bool) → is_some o ≡ true
     → IfSome o (λ width. length value ≡ width) → length value ≡ unwrap_or o 0
-width_known None value s h = absurd (false≢true s)
-width_known (Some width) value s h = h
+width-known None value s h = absurd (false≢true s)
+width-known (Some width) value s h = h
 
 -- each field of a stack without CoAP has a width
-pub names_wide : (of : Stack) (name : FieldName) → IsWithoutCoap of
+pub names-wide : (of : Stack) (name : FieldName) → IsWithoutCoap of
     → Contains (fields_of_stack of) name → is_some (width_of name) ≡ true
-names_wide stack.Ip name h among = passes_each (λ n. is_some (width_of n)) ip_fields refl name among
-names_wide stack.IpUdp name h among =
-    passes_each (λ n. is_some (width_of n)) (ip_fields ++ udp_fields) refl name among
-names_wide stack.IpUdpCoap name h among = absurd h
+names-wide stack.Ip name h among = passes-each (λ n. is_some (width_of n)) ip_fields refl name among
+names-wide stack.IpUdp name h among =
+    passes-each (λ n. is_some (width_of n)) (ip_fields ++ udp_fields) refl name among
+names-wide stack.IpUdpCoap name h among = absurd h
 
 -- without CoAP, each of the restored fields has its width, with computed lengths filled in
 pub headers-wide : (rule : RuleData) (direction : Direction) (fields : List FieldValue) (size : ℕ)
     → Covers rule direction → AreRestored rule direction fields
     → AreWide (stack_of rule) (header_values rule direction fields size)
 headers-wide rule direction fields size covers restored =
-    all_from (λ n. length (header_values rule direction fields size n) ≡ bits_of n)
+    all-from (λ n. length (header_values rule direction fields size n) ≡ bits_of n)
     (fields_of_stack (stack_of rule))
     (λ n among.
     let e = covers.each_name n among in
     let name : e.0.name ≡ n = ap (λ (at : FieldAt). at.name) e.2 in
     let own : length (value_of fields (field_of e.0)) ≡ bits_of e.0.name =
-    width_known (width_of e.0.name) (value_of fields (field_of e.0))
-    (names_wide (stack_of rule) e.0.name covers.without (covers.each_entry e.0 e.1).0)
+    width-known (width_of e.0.name) (value_of fields (field_of e.0))
+    (names-wide (stack_of rule) e.0.name covers.without (covers.each_entry e.0 e.1).0)
     (restored.widths e.0 e.1)
     in
     let value : header_values rule direction fields size n ≡ filled_value
@@ -124,26 +124,26 @@ headers-wide rule direction fields size covers restored =
     ∙ headers-value rule direction fields size e.0 covers e.1
     in
     ap (λ (bits : List Bool). length bits) value
-    ∙ filled_wide e.0 (size_after (stack_of rule) size) (value_of fields (field_of e.0)) own
+    ∙ filled-wide e.0 (size_after (stack_of rule) size) (value_of fields (field_of e.0)) own
     ∙ ap bits_of name)
 
 -- a stack without CoAP that has the UDP checksum is the one with UDP
-pub udp_stack : (of : Stack) → IsWithoutCoap of → Contains (fields_of_stack of) UdpChecksum
+pub udp-stack : (of : Stack) → IsWithoutCoap of → Contains (fields_of_stack of) UdpChecksum
     → of ≡ stack.IpUdp
-udp_stack stack.Ip h among =
+udp-stack stack.Ip h among =
     absurd (false≢true
-    (passes_each (λ n. not (same_name n UdpChecksum)) ip_fields refl UdpChecksum among))
-udp_stack stack.IpUdp h among = refl
-udp_stack stack.IpUdpCoap h among = absurd h
+    (passes-each (λ n. not (same_name n UdpChecksum)) ip_fields refl UdpChecksum among))
+udp-stack stack.IpUdp h among = refl
+udp-stack stack.IpUdpCoap h among = absurd h
 
 -- a checksum is computed in the stack with UDP alone
 pub computes-stack : (rule : RuleData) (direction : Direction) → Covers rule direction
     → computes_checksum rule direction ≡ true → stack_of rule ≡ stack.IpUdp
 computes-stack rule direction covers h =
     let some =
-    passes_some (λ e. same_name e.name UdpChecksum && is_compute e.action)
+    passes-some (λ e. same_name e.name UdpChecksum && is_compute e.action)
     (covered rule direction) h in
     let parts = and_parts (same_name some.0.name UdpChecksum) (is_compute some.0.action) some.2 in
-    udp_stack (stack_of rule) covers.without
+    udp-stack (stack_of rule) covers.without
     (subst (Contains (fields_of_stack (stack_of rule)))
     (same_name-true some.0.name UdpChecksum parts.0) (covers.each_entry some.0 some.1).0)

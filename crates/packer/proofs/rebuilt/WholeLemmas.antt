@@ -31,9 +31,9 @@ use Rattle.rule_model.specs.Residue.{restored_value}
 use Rattle.rule_model.proofs.EntryRowsLemmas.{AreApart-from_IsAdmitted}
 use Rattle.rule_model.proofs.SizedLemmas.{Contains-first, Contains-rest}
 use Rattle.decompress.specs.Stands.{Stands}
-use Rattle.decompress.proofs.LawLemmas.{passes_at, value_of-own}
+use Rattle.decompress.proofs.LawLemmas.{passes-at, value_of-own}
 use Rattle.coap_fields.specs.Join.{is_whole}
-use Rattle.packer.proofs.CoverLemmas.{passes_each, mapped_value}
+use Rattle.packer.proofs.CoverLemmas.{passes-each, mapped-value}
 use Rattle.packer.proofs.rebuilt.PutLemmas.{same-restored}
 
 -- each of these targets is whole bytes
@@ -159,14 +159,14 @@ pub whole-stands : (rule : RuleData) (iids : Iids) (direction : Direction)
     → is_whole f.at.name f.value ≡ true
 whole-stands rule iids direction fields bits rest admitted stands f among =
     let e = (same-restored rule iids direction fields stands.restored).each_field f among in
-    let passes = passes_at rule direction admitted e.0 e.1 in
+    let passes = passes-at rule direction admitted e.0 e.1 in
     let sendable = stands.sized.sendable f e.0 among e.1 e.2 in
     let own : value_of fields (field_of e.0) ≡ f.value = ap (value_of fields) e.2
     ∙ value_of-own fields f stands.sized.each_once among in
     let stays : value_of fields (field_of e.0) ≡ restored_value iids e.0
     (value_of fields (field_of e.0)) =
     ap (λ (all : List FieldValue). value_of all (field_of e.0)) stands.restored
-    ∙ mapped_value rule direction (λ d. restored_value iids d (value_of fields (field_of d))) e.0
+    ∙ mapped-value rule direction (λ d. restored_value iids d (value_of fields (field_of d))) e.0
     (AreApart-from_IsAdmitted rule admitted) e.1
     in
     let is : f.value ≡ restored_value iids e.0 f.value = sym own ∙ stays
@@ -177,7 +177,7 @@ whole-stands rule iids direction fields bits rest admitted stands f among =
     → has_length e.0.length target ≡ true =
     λ target there.
     (and_parts (has_length e.0.length target) (has_value (stack_of rule) e.0.name target)
-    (passes_each fits e.0.targets passes.lengths target there)).0
+    (passes-each fits e.0.targets passes.lengths target there)).0
     in
     subst (λ n. is_whole n f.value ≡ true) (ap (λ (at : FieldAt). at.name) e.2)
     (whole_by iids e.0.name e.0.length e.0.action e.0.operator e.0.targets f.value passes.kind

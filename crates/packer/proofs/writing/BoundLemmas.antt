@@ -28,14 +28,14 @@ use Rattle.rule_model.specs.Cover.{covered, field_of, stack_of}
 use Rattle.rule_model.specs.Findings.{repeats, IsAdmitted}
 use Rattle.rule_model.specs.Matches.{Matches}
 use Rattle.rule_model.specs.Residue.{same_field, value_of, entry_residue, residue_of, IsSized}
-use Rattle.rule_model.proofs.EntryRowsLemmas.{AreApart, AreApart-from_IsAdmitted, other_field}
+use Rattle.rule_model.proofs.EntryRowsLemmas.{AreApart, AreApart-from_IsAdmitted, other-field}
 use Rattle.rule_model.proofs.SizedLemmas.{Contains-first, Contains-rest, same_field-itself}
-use Rattle.decompress.proofs.LawLemmas.{unfilter, passes_at, value_of-own}
+use Rattle.decompress.proofs.LawLemmas.{unfilter, passes-at, value_of-own}
 use Rattle.ip_udp_fields.specs.Layout.{IsWithoutCoap, header_size, fields_in_packet_order, bits_of}
 use Rattle.ip_udp_fields.specs.Fields.{at_name, field_in, fields_in, FieldsOf}
 use Rattle.ip_udp_fields.proofs.PlaceLemmas.{fields_in_packet_order-within}
 use Rattle.ip_udp_fields.proofs.RefusalLemmas.{header_size-is_packet}
-use Rattle.ip_udp_fields.proofs.SplitLemmas.{field_bits, lengths, without_coap}
+use Rattle.ip_udp_fields.proofs.SplitLemmas.{field_bits, lengths, without-coap}
 use Rattle.coap_fields.specs.Message.{OptionData, Message, next_place, extension, option_spelled}
 use Rattle.coap_fields.specs.Message.{options_spelled, payload_spelled, header_spelled, spelled}
 use Rattle.coap_fields.specs.Fields.{option_field, option_fields, token_fields, header_fields}
@@ -128,7 +128,7 @@ sum_into direction (e ∷ entries) fields size apart each =
           let its : HasRoom fields size d = each d (rw t (Contains-rest e used d among)) in
           let is = unfilter (λ e. covers e.direction direction) entries d among in
           let other : same_field (field_of d) (field_of e) ≡ false =
-          other_field d e direction (apart.0 d is.0) is.1 t in
+          other-field d e direction (apart.0 d is.0) is.1 t in
           record {
             f = its.f;
             among = around s.front s.back own.f its.f
@@ -162,7 +162,7 @@ residue_room rule iids direction fields computed admitted sized m =
           let f = m.same_set.each_entry e among in
           let own : value_of fields (field_of e) ≡ f.0.value = ap (value_of fields) f.2
           ∙ value_of-own fields f.0 sized.each_once f.1 in
-          let passes = passes_at rule direction admitted e among in
+          let passes = passes-at rule direction admitted e among in
           let bound : length (entry_residue e f.0.value) ≤ room e.name f.0.value =
           entry-bound (stack_of rule) e f.0.value passes.kind passes.pair passes.count
           passes.lengths (m.agrees f.0 e f.1 among f.2).operator_holds

@@ -29,7 +29,7 @@ use Rattle.rule_model.specs.Matches.{OperatorHolds}
 use Rattle.rule_model.specs.Residue.{size_code, index_width, index_of, msb_bits, with_size}
 use Rattle.rule_model.specs.Residue.{sent_bits, entry_residue}
 use Rattle.rule_model.proofs.ResidueLemmas.{index_width-fewest, same_bits-itself}
-use Rattle.decompress.proofs.LawLemmas.{all_at}
+use Rattle.decompress.proofs.LawLemmas.{all-at}
 
 -- the bits that the size of an option takes at most, where it is sent, or the index of its target
 abbrev pub slack : ℕ → ℕ
@@ -253,7 +253,7 @@ index_bound : (stack : Stack) (name : FieldName) (kind : Length) (targets : List
 index_bound stack name (Fixed width) targets value k c h among =
     let all = widths stack name width targets h in
     let own : length value ≡ width =
-    all_at (λ (t : List Bool). length t ≡ width) targets all value among in
+    all-at (λ (t : List Bool). length t ≡ width) targets all value among in
     omega (
       arith,
       index_width-fewest (length targets) width (few targets width all c.different),
@@ -262,7 +262,7 @@ index_bound stack name (Fixed width) targets value k c h among =
     )
 index_bound stack name TokenLength targets value k c h among =
     let own : 8 ≤ length value =
-    all_at (λ (t : List Bool). 8 ≤ length t) targets (tokens stack name targets h) value among
+    all-at (λ (t : List Bool). 8 ≤ length t) targets (tokens stack name targets h) value among
     in
     omega (arith, byte (length targets) c.count, own, room-value name value)
 index_bound stack CoapToken Variable targets value k c h among = absurd (cc)

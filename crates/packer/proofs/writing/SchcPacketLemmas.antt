@@ -41,7 +41,7 @@ with_id front id bits e =
     )
 
 -- 8 bits or more are as many still with others behind them
-pub with_more : (bits more longer : List Bool) → longer ≡ bits ++ more → 8 ≤ length bits
+pub with-more : (bits more longer : List Bool) → longer ≡ bits ++ more → 8 ≤ length bits
     → 8 ≤ length longer
-with_more bits more longer e h =
+with-more bits more longer e h =
     omega (arith, ap (λ (bits : List Bool). length bits) e, length-append bits more)

@@ -27,8 +27,8 @@ use Rattle.ip_udp_fields.proofs.PlaceLemmas.{fields_in_packet_order-within}
 use Rattle.ip_udp_fields.proofs.RefusalLemmas.{header_size-is_packet}
 use Rattle.ip_udp_fields.proofs.SplitLemmas.{field_bits, lengths}
 use Rattle.packer.specs.Packets.{PacketOf}
-use Rattle.packer.proofs.HeaderFieldsLemmas.{names-apart, once_along, widths_along, is_below_coap}
-use Rattle.packer.proofs.HeaderFieldsLemmas.{fields-below, kind_of, of_rule}
+use Rattle.packer.proofs.HeaderFieldsLemmas.{names-apart, once-along, widths-along, is_below_coap}
+use Rattle.packer.proofs.HeaderFieldsLemmas.{fields-below, kind-of, of-rule}
 use Rattle.packer.proofs.coap.SizedCoapLemmas.{sized-coap}
 
 token_free : (fields : List FieldValue) (name : FieldName) (action : Action) (value : List Bool)
@@ -60,12 +60,12 @@ sized-headers rule iids direction of packet fields from computed admitted h p m 
     record {
       each_once =
           subst (AllPairs (λ f g. f.at ≢ g.at)) (sym p.its_fields)
-          (once_along direction packet (fields_in_packet_order of direction)
+          (once-along direction packet (fields_in_packet_order of direction)
           (names-apart of direction h));
       width_holds = λ f c.
           All-contains (λ f. WidthHolds f.at.name f.value) fields f
           (subst (All (λ f. WidthHolds f.at.name f.value)) (sym p.its_fields)
-          (widths_along direction packet (fields_in_packet_order of direction) within)) c;
+          (widths-along direction packet (fields_in_packet_order of direction) within)) c;
       sendable = λ f e c d same.
           let named : e.name ≡ f.at.name = ap (λ (at : FieldAt). at.name) same in
           let below : is_below_coap e.name ≡ true =
@@ -79,7 +79,7 @@ sized-headers rule iids direction of packet fields from computed admitted h p m 
             token_holds = token_free fields e.name e.action f.value below;
             size_holds =
                 size_free e.name e.length e.action e.operator f.value below
-                (kind_of rule admitted e (of_rule rule direction e d));
+                (kind-of rule admitted e (of-rule rule direction e d));
           };
     }
 

@@ -19,13 +19,13 @@ use Rattle.rule_model.specs.SplitData.{SplitData}
 use Rattle.rule_model.specs.Residue.{same_field, value_of}
 use Rattle.rule_model.proofs.FirstLemmas.{first_held-append_some}
 use Rattle.rule_model.proofs.SizedLemmas.{Contains-first, Contains-rest, same_field-itself}
-use Rattle.decompress.proofs.LawLemmas.{all_at, value_of-own}
+use Rattle.decompress.proofs.LawLemmas.{all-at, value_of-own}
 use Rattle.ip_udp_fields.specs.Layout.{IsWithoutCoap, header_size, bits_of}
 use Rattle.ip_udp_fields.specs.Fields.{at_name, field_in, fields_in, FieldsOf, IsIpv6}
 use Rattle.ip_udp_fields.specs.Refusals.{ip_refusals, udp_refusals, refusal}
 use Rattle.ip_udp_fields.proofs.PlaceLemmas.{fields-within}
 use Rattle.ip_udp_fields.proofs.RefusalLemmas.{header_size-is_packet}
-use Rattle.ip_udp_fields.proofs.SplitLemmas.{field_bits, lengths, without_coap}
+use Rattle.ip_udp_fields.proofs.SplitLemmas.{field_bits, lengths, without-coap}
 use Rattle.coap_fields.specs.Message.{Message}
 use Rattle.coap_fields.specs.Fields.{fields_of_message}
 use Rattle.coap_fields.specs.Reading.{behind, message_in, read_message}
@@ -202,12 +202,12 @@ pub value-width : (of : Stack) (direction : Direction) (packet : List ℕ) (fiel
     (from : ℕ) (name : FieldName) → FieldsOf of direction packet fields from
     → Contains (fields_of_stack of) name → length (value_of fields (at_name name)) ≡ bits_of name
 value-width of direction packet fields from name p among =
-    let h : IsWithoutCoap of = without_coap of packet p.is_packet in
+    let h : IsWithoutCoap of = without-coap of packet p.is_packet in
     ap (λ (bits : List Bool). length bits)
     (value_of-own fields (field_in direction packet name)
     (once-fields of direction packet fields from p)
     (field-named of direction packet fields from name p among))
-    ∙ all_at (λ n. length (field_bits direction packet n) ≡ bits_of n) (fields_of_stack of)
+    ∙ all-at (λ n. length (field_bits direction packet n) ≡ bits_of n) (fields_of_stack of)
     (lengths of direction packet (fields_of_stack of) (header_size-is_packet of packet p.is_packet)
     (fields-within of direction h)) name among
 

@@ -47,7 +47,7 @@ use Rattle.packer.specs.Searching.{IsFirstSchcPacket, IsSplitFarEnough, cut_to}
 use Rattle.packer.proofs.writing.CandidateLemmas.{LeavesNoneOut, none-candidate, smallest-shortest}
 use Rattle.packer.proofs.ChosenLemmas.{IsUnderRule, IsShortest, schc_packet-parts, shortest-least}
 use Rattle.packer.proofs.coap.CoapHeadersLemmas.{headers-there}
-use Rattle.packer.proofs.CoverLemmas.{Contains-map, some_passes}
+use Rattle.packer.proofs.CoverLemmas.{Contains-map, some-passes}
 use Rattle.packer.proofs.writing.FirstLemmas.{smallest-append}
 use Rattle.packer.proofs.PacketFieldsLemmas.{Contains-unmap}
 use Rattle.packer.proofs.reading.ReadBackLemmas.{reads-packet}
@@ -229,7 +229,7 @@ computed-udp rules direction packet of key sums computed ids rising other are e 
           ∙ c in
           ap (λ (c : Computed). c.checksum) e
           ∙ with_sum sums packet
-          (h (some_passes (computes_under rules direction) ids id among own))
+          (h (some-passes (computes_under rules direction) ids id among own))
           ∙ ap (λ (c : Computed). c.checksum) (sym over);
     }
 

@@ -1,5 +1,5 @@
-use Rattle.coap_fields.proofs.SplitLemmas.{one_split}
+use Rattle.coap_fields.proofs.SplitLemmas.{one-split}
 use Rattle.coap_fields.proofs.laws.joined_then_split.Goals as goal
 
 pub returns : goal.returns
-returns c = one_split
+returns c = one-split

@@ -1,5 +1,5 @@
 use Rattle.std.proofs.Common.{ℕ, List, arith, ap, length, []}
-use Rattle.coap_fields.proofs.JoinLemmas.{made, kind_below}
+use Rattle.coap_fields.proofs.JoinLemmas.{made, kind-below}
 use Rattle.coap_fields.proofs.writing.written.Goals as goal
 
 pub byte_in-kind-requires : goal.byte_in-kind-requires
@@ -22,7 +22,7 @@ overflow_cast-len c =
 
 pub header-requires-clause-kind : goal.header-requires-clause-kind
 header-requires-clause-kind c =
-    omega (arith, c.byte_in-kind.ensures, kind_below c.args.fields.now c.requires)
+    omega (arith, c.byte_in-kind.ensures, kind-below c.args.fields.now c.requires)
 
 pub header-requires-clause-tkl : goal.header-requires-clause-tkl
 header-requires-clause-tkl c =

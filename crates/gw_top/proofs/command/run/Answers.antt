@@ -1,7 +1,7 @@
 use Rattle.std.proofs.Common.{rules}
 use Rattle.gw_top.specs.Answers.{Call, call}
 use Rattle.gw_top.specs.Words.{reads_input}
-use Rattle.gw_top.proofs.InputLemmas.{input_given}
+use Rattle.gw_top.proofs.InputLemmas.{input-given}
 use Rattle.gw_top.proofs.RunLemmas.{completes}
 use Rattle.gw_top.proofs.command.run.Goals as goal
 
@@ -14,7 +14,7 @@ returns-in-Ok-write_all-clause-answers g c =
     (g.K.Sink.state c.write_all.new.sink) in
     let text = c.in-Ok-input_of.text in
     let input =
-    input_given (reads_input c.in-Ok.command) this text c.in-Ok-input_of.ensures.gives in
+    input-given (reads_input c.in-Ok.command) this text c.in-Ok-input_of.ensures.gives in
     record {
       command = c.in-Ok.command;
       named = search rules;

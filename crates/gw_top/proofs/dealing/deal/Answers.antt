@@ -1,6 +1,6 @@
 use Rattle.std.proofs.Common.{◌+◌, drop, subst}
-use Rattle.gw_top.proofs.MergeLemmas.{drop_step}
-use Rattle.gw_top.proofs.DealingLemmas.{IsDealtTo, dealt_next}
+use Rattle.gw_top.proofs.MergeLemmas.{drop-step}
+use Rattle.gw_top.proofs.DealingLemmas.{IsDealtTo, dealt-next}
 use Rattle.gw_top.proofs.dealing.deal.Goals as goal
 
 -- one event more is dealt out
@@ -11,8 +11,8 @@ loop-event-preserved c =
     let events = c.args.events.now in
     let event = c.event-item.result in
     let ensures = c.in_ok-add.ensures in
-    dealt_next devices events (drop (at.event-index + 1) events) event at.dealt c.add.new.self
+    dealt-next devices events (drop (at.event-index + 1) events) event at.dealt c.add.new.self
     ensures.publications ensures.turns
     (subst (λ left. IsDealtTo devices events left at.dealt)
-    (drop_step events at.event-index event c.loop-event-test.true c.event-item.is)
+    (drop-step events at.event-index event c.loop-event-test.true c.event-item.is)
     at.invariant)

@@ -1,7 +1,7 @@
 use Rattle.std.proofs.Common.{rules, ◌+◌, drop, nat_eq}
 use Rattle.indexmap.specs.IndexMap.{get}
-use Rattle.gw_top.proofs.QueueLemmas.{said_more}
-use Rattle.gw_top.proofs.MergeLemmas.{merged_line, merged_next, merged_last, drop_step}
+use Rattle.gw_top.proofs.QueueLemmas.{said-more}
+use Rattle.gw_top.proofs.MergeLemmas.{merged-line, merged-next, merged-last, drop-step}
 use Rattle.gw_top.proofs.merging.merged.Goals as goal
 
 -- the line that is taken is there
@@ -9,10 +9,10 @@ pub unwrap-line-requires : goal.unwrap-line-requires
 unwrap-line-requires c =
     let at = c.loop-event in
     let here =
-    drop_step c.args.events.now at.event-index c.event-item.result c.loop-event-test.true
+    drop-step c.args.events.now at.event-index c.event-item.result c.loop-event-test.true
     c.event-item.is in
     let found =
-    merged_line c.args.declared.now c.args.events.now (drop at.event-index c.args.events.now)
+    merged-line c.args.declared.now c.args.events.now (drop at.event-index c.args.events.now)
     (drop (at.event-index + 1) c.args.events.now) c.event-item.result at.lines.items
     at.published (get nat_eq at.devices) c.take_line.result here c.take_line.ensures.line
     at.invariant.1 in
@@ -22,11 +22,11 @@ pub loop-event-preserved : goal.loop-event-preserved
 loop-event-preserved c =
     let at = c.loop-event in
     let here =
-    drop_step c.args.events.now at.event-index c.event-item.result c.loop-event-test.true
+    drop-step c.args.events.now at.event-index c.event-item.result c.loop-event-test.true
     c.event-item.is in (
-      said_more at.lines.items c.push.new.self.items c.unwrap-line.result c.take_line.result
+      said-more at.lines.items c.push.new.self.items c.unwrap-line.result c.take_line.result
           c.in_ok-push.ensures.items (search rules) c.take_line.ensures.said at.invariant.0,
-      merged_next c.args.declared.now c.args.events.now (drop at.event-index c.args.events.now)
+      merged-next c.args.declared.now c.args.events.now (drop at.event-index c.args.events.now)
           (drop (at.event-index + 1) c.args.events.now) c.event-item.result at.lines.items
           at.published (get nat_eq at.devices) c.take_line.result here c.take_line.ensures.line
           at.invariant.1
@@ -39,7 +39,7 @@ pub returns : goal.returns
 returns c =
     let at = c.loop-event in
     record {
-      lines = merged_last c.args.declared.now c.args.events.now at.event-index at.lines.items
+      lines = merged-last c.args.declared.now c.args.events.now at.event-index at.lines.items
           at.published (get nat_eq at.devices) c.loop-event-test.false at.invariant.1;
       said = at.invariant.0;
     }

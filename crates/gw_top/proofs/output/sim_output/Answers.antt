@@ -1,7 +1,7 @@
-use Rattle.gw_top.proofs.RunLemmas.{safe_text}
+use Rattle.gw_top.proofs.RunLemmas.{safe-text}
 use Rattle.gw_top.proofs.output.sim_output.Goals as goal
 
 pub returns-clause-safe : goal.returns-clause-safe
 returns-clause-safe g c =
-    safe_text c.args.workers c.args.text.now c.in_ok-script.script c.in_ok-script.ensures.read
+    safe-text c.args.workers c.args.text.now c.in_ok-script.script c.in_ok-script.ensures.read
     c.in_ok-lines.ensures.safe

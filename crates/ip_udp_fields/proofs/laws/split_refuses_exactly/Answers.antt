@@ -1,5 +1,5 @@
-use Rattle.ip_udp_fields.proofs.SplitLemmas.{refuses_exactly}
+use Rattle.ip_udp_fields.proofs.SplitLemmas.{refuses-exactly}
 use Rattle.ip_udp_fields.proofs.laws.split_refuses_exactly.Goals as goal
 
 pub returns : goal.returns
-returns c = refuses_exactly
+returns c = refuses-exactly

@@ -2,7 +2,7 @@ use Rattle.std.proofs.Common.{subst, sym, ◌≤◌, length}
 use Rattle.rule_model.specs.SplitData.{SplitData}
 use Rattle.rule_model.specs.Cover.{stack_of}
 use Rattle.rule_model.specs.Residue.{IsSized}
-use Rattle.packer.proofs.writing.SchcPacketLemmas.{with_id, with_more}
+use Rattle.packer.proofs.writing.SchcPacketLemmas.{with_id, with-more}
 use Rattle.packer.proofs.HeadersLemmas.{from-within}
 use Rattle.packer.proofs.writing.SizedFieldsLemmas.{sized-packet}
 use Rattle.packer.proofs.packing.schc_packet_under.Goals as goal
@@ -19,8 +19,8 @@ residue-requires c =
 pub invariant_of-result : goal.invariant_of-result
 invariant_of-result c = (
   c.id_of-rule_id.ensures.small,
-  with_more c.residue.new.out _ c.push_bytes.new.self c.in_ok-push_bytes.ensures.ok
-      (with_more c.push_bits.new.self _ c.residue.new.out c.in_ok-residue.ensures.ok
+  with-more c.residue.new.out _ c.push_bytes.new.self c.in_ok-push_bytes.ensures.ok
+      (with-more c.push_bits.new.self _ c.residue.new.out c.in_ok-residue.ensures.ok
       (with_id _ _ c.push_bits.new.self c.in_ok-push_bits.ensures.ok)),
 )
 

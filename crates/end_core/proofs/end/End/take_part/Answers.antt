@@ -1,7 +1,7 @@
 -- the sessions take the frame, and what it makes whole is handed up
 use Rattle.std.proofs.Common.{sym, ap, ◌∙◌}
 use Rattle.end_core.specs.End.{joined}
-use Rattle.end_core.proofs.WithinLemmas.{part_within, part_note}
+use Rattle.end_core.proofs.WithinLemmas.{part-within, part-note}
 use Rattle.end_core.proofs.PartLemmas.{part-taken}
 use Rattle.end_core.proofs.end.End.take_part.Goals as goal
 
@@ -17,11 +17,11 @@ returns-clause-done c =
 pub returns-clause-outcome : goal.returns-clause-outcome
 returns-clause-outcome c =
     rw c.taken_part.ensures
-    (part_note c.number.result c.take-note.result c.in_ok-joined.joined c.take-note.ensures.note
+    (part-note c.number.result c.take-note.result c.in_ok-joined.joined c.take-note.ensures.note
     c.in_ok-joined.ensures.note)
 
 pub returns-clause-bound : goal.returns-clause-bound
 returns-clause-bound c =
     rw c.taken_part.ensures
-    (part_within c.args.frame.now c.number.result c.take-note.result c.in_ok-joined.joined
+    (part-within c.args.frame.now c.number.result c.take-note.result c.in_ok-joined.joined
     c.in_ok-joined.ensures.bound)

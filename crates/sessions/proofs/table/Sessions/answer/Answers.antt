@@ -3,8 +3,8 @@ use Rattle.event_data.specs.declared.outcomes.EmitKind.TheVariants as kind
 use Rattle.sessions.specs.Data.{in_key, seen}
 use Rattle.sessions.specs.Holds.{IsReceiving}
 use Rattle.sessions.specs.Steps.{answers_from, next_from, given}
-use Rattle.sessions.proofs.NextLemmas.{on_err_of, answer_first, answer_second, no_answer}
-use Rattle.sessions.proofs.ReceiverLemmas.{answered_keeps, answered_still}
+use Rattle.sessions.proofs.NextLemmas.{on-err-of, answer-first, answer-second, no-answer}
+use Rattle.sessions.proofs.ReceiverLemmas.{answered-keeps, answered-still}
 use Rattle.sessions.proofs.table.Sessions.answer.Goals as goal
 
 pub invariant_of-self-in-Some : goal.invariant_of-self-in-Some
@@ -17,7 +17,7 @@ invariant_of-self-in-Some c =
       answers =
           subst (λ r. IsReceiving s.role true r s.clocks.answering)
           (sym c.in_ok-bytes.ensures.after)
-          (answered_keeps s.role true s.answering s.clocks.answering i.answers);
+          (answered-keeps s.role true s.answering s.clocks.answering i.answers);
       listens = i.listens;
     }
 
@@ -27,7 +27,7 @@ returns-in-Some-clause-step c rest =
     let due = sym c.in_ok-bytes.ensures.given
     ∙ ap (λ o. option_map (λ bytes. bytes.items) o) c.in-Some.is in
     ap (λ x. next_from x (answers_from x.receivers rest)) (sym c.self.view_is)
-    ∙ answer_first s.role s.params s.running s.answering s.silent s.next s.clocks
+    ∙ answer-first s.role s.params s.running s.answering s.silent s.next s.clocks
     c.in-Some.bytes.items due rest
     ∙ ap (λ r. (
       seen s.role s.params s.running r s.silent s.next s.clocks,
@@ -44,7 +44,7 @@ invariant_of-self-in_err-bytes-2 c =
     let i = c.self.invariant in
     let due = sym c.in_ok-bytes.ensures.given
     ∙ ap (λ o. option_map (λ bytes. bytes.items) o) c.in_default.is in
-    let same = c.in_ok-bytes.ensures.after ∙ answered_still s.answering due in
+    let same = c.in_ok-bytes.ensures.after ∙ answered-still s.answering due in
     record {
       in_range = i.in_range;
       sends = i.sends;
@@ -59,8 +59,8 @@ returns-in_err-bytes-2-clause-unchanged c =
     let s = c.self.inside in
     let due = sym c.in_ok-bytes.ensures.given
     ∙ ap (λ o. option_map (λ bytes. bytes.items) o) c.in_default.is in
-    let same = c.in_ok-bytes.ensures.after ∙ answered_still s.answering due in
-    on_err_of c.from_residual-in_err-bytes-2.result
+    let same = c.in_ok-bytes.ensures.after ∙ answered-still s.answering due in
+    on-err-of c.from_residual-in_err-bytes-2.result
     (ap (λ r. seen s.role s.params s.running r c.answer-2.new.self s.next s.clocks) same
     ∙ ap (λ r. seen s.role s.params s.running s.answering r s.next s.clocks)
     c.in_err-bytes-2.ensures.unchanged ∙ c.self.view_is)
@@ -71,7 +71,7 @@ invariant_of-self-in-Some-2 c =
     let i = c.self.invariant in
     let due = sym c.in_ok-bytes.ensures.given
     ∙ ap (λ o. option_map (λ bytes. bytes.items) o) c.in_default.is in
-    let same = c.in_ok-bytes.ensures.after ∙ answered_still s.answering due in
+    let same = c.in_ok-bytes.ensures.after ∙ answered-still s.answering due in
     record {
       in_range = i.in_range;
       sends = i.sends;
@@ -79,7 +79,7 @@ invariant_of-self-in-Some-2 c =
       listens =
           subst (λ r. IsReceiving s.role false r s.clocks.silent)
           (sym c.in_ok-bytes-2.ensures.after)
-          (answered_keeps s.role false s.silent s.clocks.silent i.listens);
+          (answered-keeps s.role false s.silent s.clocks.silent i.listens);
     }
 
 pub returns-in-Some-2-clause-step : goal.returns-in-Some-2-clause-step
@@ -87,11 +87,11 @@ returns-in-Some-2-clause-step c rest =
     let s = c.self.inside in
     let none = sym c.in_ok-bytes.ensures.given
     ∙ ap (λ o. option_map (λ bytes. bytes.items) o) c.in_default.is in
-    let same = c.in_ok-bytes.ensures.after ∙ answered_still s.answering none in
+    let same = c.in_ok-bytes.ensures.after ∙ answered-still s.answering none in
     let due = sym c.in_ok-bytes-2.ensures.given
     ∙ ap (λ o. option_map (λ bytes. bytes.items) o) c.in-Some-2.is in
     ap (λ x. next_from x (answers_from x.receivers rest)) (sym c.self.view_is)
-    ∙ answer_second s.role s.params s.running s.answering s.silent s.next s.clocks
+    ∙ answer-second s.role s.params s.running s.answering s.silent s.next s.clocks
     c.in-Some-2.bytes.items none due rest
     ∙ ap (λ r. (
       seen s.role s.params s.running s.answering r s.next s.clocks,
@@ -114,10 +114,10 @@ invariant_of-self-2 c =
     let i = c.self.invariant in
     let due = sym c.in_ok-bytes.ensures.given
     ∙ ap (λ o. option_map (λ bytes. bytes.items) o) c.in_default.is in
-    let same = c.in_ok-bytes.ensures.after ∙ answered_still s.answering due in
+    let same = c.in_ok-bytes.ensures.after ∙ answered-still s.answering due in
     let due-2 = sym c.in_ok-bytes-2.ensures.given
     ∙ ap (λ o. option_map (λ bytes. bytes.items) o) c.in_default-2.is in
-    let same-2 = c.in_ok-bytes-2.ensures.after ∙ answered_still s.silent due-2 in
+    let same-2 = c.in_ok-bytes-2.ensures.after ∙ answered-still s.silent due-2 in
     record {
       in_range = i.in_range;
       sends = i.sends;
@@ -133,17 +133,17 @@ returns-clause-none c rest =
     let due-2 = sym c.in_ok-bytes-2.ensures.given
     ∙ ap (λ o. option_map (λ bytes. bytes.items) o) c.in_default-2.is in
     ap (λ x. answers_from x.receivers rest) (sym c.self.view_is)
-    ∙ no_answer s.role s.params s.running s.answering s.silent s.next s.clocks due due-2 rest
+    ∙ no-answer s.role s.params s.running s.answering s.silent s.next s.clocks due due-2 rest
 
 pub returns-clause-same : goal.returns-clause-same
 returns-clause-same c =
     let s = c.self.inside in
     let due = sym c.in_ok-bytes.ensures.given
     ∙ ap (λ o. option_map (λ bytes. bytes.items) o) c.in_default.is in
-    let same = c.in_ok-bytes.ensures.after ∙ answered_still s.answering due in
+    let same = c.in_ok-bytes.ensures.after ∙ answered-still s.answering due in
     let due-2 = sym c.in_ok-bytes-2.ensures.given
     ∙ ap (λ o. option_map (λ bytes. bytes.items) o) c.in_default-2.is in
-    let same-2 = c.in_ok-bytes-2.ensures.after ∙ answered_still s.silent due-2 in
+    let same-2 = c.in_ok-bytes-2.ensures.after ∙ answered-still s.silent due-2 in
     ap (λ r. seen s.role s.params s.running r c.answer-2.new.self s.next s.clocks) same
     ∙ ap (λ r. seen s.role s.params s.running s.answering r s.next s.clocks) same-2
     ∙ c.self.view_is

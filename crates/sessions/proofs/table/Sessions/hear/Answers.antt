@@ -3,8 +3,8 @@ use Rattle.lorawan_profile.specs.Ports.{sending_of}
 use Rattle.sessions.specs.Data.{out_key}
 use Rattle.sessions.specs.Keys.{found}
 use Rattle.sessions.specs.Steps.{answer_taken}
-use Rattle.sessions.proofs.CallLemmas.{hear_unanswered, hear_none, hear_some}
-use Rattle.sessions.proofs.HearLemmas.{has_answer}
+use Rattle.sessions.proofs.CallLemmas.{hear-unanswered, hear-none, hear-some}
+use Rattle.sessions.proofs.HearLemmas.{has-answer}
 use Rattle.sessions.proofs.table.Sessions.hear.Goals as goal
 
 pub returns-then-not-self : goal.returns-then-not-self
@@ -16,7 +16,7 @@ returns-then-not-self c =
       step = subst
           (λ x. answer_taken x (out_key x.role true) m
           (found (out_key x.role true) x.senders) ≡ (x, _)) v
-          (hear_unanswered s.role s.params s.running s.answering s.silent s.next s.clocks m
+          (hear-unanswered s.role s.params s.running s.answering s.silent s.next s.clocks m
           c.if-not-self.true);
       role = refl;
       params = refl;
@@ -30,7 +30,7 @@ returns-in_default c =
     record {
       step = ap
           (λ x. answer_taken x (out_key x.role true) m (found (out_key x.role true) x.senders))
-          (sym v) ∙ hear_none s.role s.params s.running s.answering s.silent s.next s.clocks m
+          (sym v) ∙ hear-none s.role s.params s.running s.answering s.silent s.next s.clocks m
           c.if-not-self.false c.in_default.is;
       role = ap (λ x. x.role) v;
       params = ap (λ x. x.params) v;
@@ -39,7 +39,7 @@ returns-in_default c =
 pub hear_message-heard-requires-clause-answer : goal.hear_message-heard-requires-clause-answer
 hear_message-heard-requires-clause-answer c =
     let s = c.self.inside in
-    has_answer s.role s.params s.running c.in-Some.running s.clocks.sending c.args.message.now
+    has-answer s.role s.params s.running c.in-Some.running s.clocks.sending c.args.message.now
     c.args.self.now.role c.if-not-self.false c.in-Some.is c.self.invariant.sends
     (ap (λ x. x.role) (sym c.self.view_is)) c.requires
 
@@ -51,7 +51,7 @@ returns c =
     record {
       step = ap
           (λ x. answer_taken x (out_key x.role true) m (found (out_key x.role true) x.senders))
-          (sym v) ∙ hear_some s.role s.params s.running c.in-Some.running
+          (sym v) ∙ hear-some s.role s.params s.running c.in-Some.running
           c.hear_message-heard.new.running s.answering s.silent s.next s.clocks
           c.hear_message-heard.new.clocks m c.hear_message-heard.result c.heard_note.result
           c.heard_report.result c.if-not-self.false c.in-Some.is c.hear_message-heard.ensures.exact

@@ -1,13 +1,13 @@
 use Rattle.std.proofs.Common.{subst, ap, ◌≡◌, IsSome, ◌∙◌}
 use Rattle.std.proofs.lemmas.Result.{IfOk-weaker, on_err_weaker}
 use Rattle.lorawan_profile.specs.Ports.{meaning_of}
-use Rattle.sessions.proofs.CallLemmas.{preview_fragments, preview_other}
+use Rattle.sessions.proofs.CallLemmas.{preview-fragments, preview-other}
 use Rattle.sessions.proofs.table.Sessions.preview.Goals as goal
 
 pub returns-clause-joined : goal.returns-clause-joined
 returns-clause-joined c =
     let is =
-    preview_fragments c.args.self.now c.args.port c.in-Fragments.params c.args.bytes.now
+    preview-fragments c.args.self.now c.args.port c.in-Fragments.params c.args.bytes.now
     c.meaning.result
     (c.meaning.ensures.exact ∙ ap (λ s. meaning_of s.role c.args.port) c.self.view_is)
     c.in-Fragments.is in
@@ -16,7 +16,7 @@ returns-clause-joined c =
 pub returns-clause-memory : goal.returns-clause-memory
 returns-clause-memory c =
     let is =
-    preview_fragments c.args.self.now c.args.port c.in-Fragments.params c.args.bytes.now
+    preview-fragments c.args.self.now c.args.port c.in-Fragments.params c.args.bytes.now
     c.meaning.result
     (c.meaning.ensures.exact ∙ ap (λ s. meaning_of s.role c.args.port) c.self.view_is)
     c.in-Fragments.is in
@@ -27,7 +27,7 @@ pub returns-in_default : goal.returns-in_default
 returns-in_default c =
     record {
       joined =
-          preview_other c.args.self.now c.args.port c.args.bytes.now c.meaning.result
+          preview-other c.args.self.now c.args.port c.args.bytes.now c.meaning.result
           (c.meaning.ensures.exact ∙ ap (λ s. meaning_of s.role c.args.port) c.self.view_is)
           c.in_default.not-Fragments;
       memory = tt;

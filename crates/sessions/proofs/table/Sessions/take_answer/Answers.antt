@@ -1,8 +1,8 @@
 use Rattle.std.proofs.Common.{refl, ap, sym, ◌∙◌, true}
 use Rattle.schc_ids.specs.declared.fragments.Side.TheVariants as side
 use Rattle.sessions.specs.Data.{out_key}
-use Rattle.sessions.proofs.ReadingLemmas.{read_is, is_answer}
-use Rattle.sessions.proofs.CallLemmas.{answer_ok, answer_err}
+use Rattle.sessions.proofs.ReadingLemmas.{read-is, is_answer}
+use Rattle.sessions.proofs.CallLemmas.{answer-ok, answer-err}
 use Rattle.sessions.proofs.table.Sessions.take_answer.Goals as goal
 
 pub hear-requires : goal.hear-requires
@@ -15,10 +15,10 @@ returns-in-Ok c =
     let params = c.args.params.now in
     let bytes = c.args.bytes.now in
     let read =
-    read_is params side.Answers bytes c.read.result c.read.ensures.spells c.read.ensures.fault
+    read-is params side.Answers bytes c.read.result c.read.ensures.spells c.read.ensures.fault
     in
     record {
-      step = answer_ok c.args.self.now (c.hear.new.self, c.hear.result)
+      step = answer-ok c.args.self.now (c.hear.new.self, c.hear.result)
           (out_key c.args.self.now.role true) params bytes c.in-Ok.message c.read.result read
           c.in-Ok.is c.hear.ensures.step;
       role = c.hear.ensures.role;
@@ -30,11 +30,11 @@ returns-in-Err c =
     let params = c.args.params.now in
     let bytes = c.args.bytes.now in
     let read =
-    read_is params side.Answers bytes c.read.result c.read.ensures.spells c.read.ensures.fault
+    read-is params side.Answers bytes c.read.result c.read.ensures.spells c.read.ensures.fault
     in
     record {
       step =
-          answer_err c.args.self.now (out_key c.args.self.now.role true) params bytes c.in-Err.fault
+          answer-err c.args.self.now (out_key c.args.self.now.role true) params bytes c.in-Err.fault
           c.read.result read c.in-Err.is;
       role = refl;
       params = refl;
