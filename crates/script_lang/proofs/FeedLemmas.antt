@@ -117,6 +117,7 @@ number-clean (negative z) = signed-clean z
 number-clean (float x) = tt
 
 mutual
+  -- the compact text of a JSON value has no line feed
   pub json-clean : (d : Data) → NoFeed (compact_text d)
   json-clean null = literal (compact_text null) refl
   json-clean (boolean true) = literal (compact_text (boolean true)) refl

@@ -27,7 +27,7 @@ use Rattle.two_ends.proofs.GivenLemmas.{given_step, turn-gives}
 use Rattle.two_ends.proofs.PerLemmas.{put_role-at_role, put_direction-at_direction}
 use Rattle.two_ends.proofs.WorldLemmas.{given_world, slot-next}
 
--- no end gives anything at its slot
+-- what the end gives at its slot
 abbrev pub gives_of : EndData → Given
 gives_of end = given_by end (turn end)
 

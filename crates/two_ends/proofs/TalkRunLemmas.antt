@@ -337,6 +337,8 @@ module _ (params : EndParams) (role : Role) (known : EditionData) (place : ℕ) 
         well = k.well;
       }
 
+  -- where a talk ends within so many rounds, as many plain rounds see the session through:
+  -- its packet is handed up once, it is reported once, and neither end has more to give
   pub ends-over : (more count : ℕ) (h : History) (t : Talk) → suc more ≤ count →
       IsReady params h role known place begins t →
       IsTalkOf (lane_params params (own_lane params role)) bits t →

@@ -175,6 +175,7 @@ module _ (rule : RuleData) (iids : Iids) (direction : Direction) (packet this th
             (head-field direction that t.restored_fields t.payload_from n there among) e.1 e.2;
       }
 
+  -- two packets that a rule over CoAP restores from the same packet are one
   pub one-coap : this ≡ that
   one-coap =
       one-of stack.IpUdp direction this that (fields_in stack.IpUdp direction this)

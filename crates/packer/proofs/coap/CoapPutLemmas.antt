@@ -356,6 +356,7 @@ module _ (rule : RuleData) (direction : Direction) (fields : List FieldValue) (p
           from_is = refl;
         }
 
+  -- where no value is refused, the headers and the message are put together as a packet with CoAP
   pub coap-put : first_held (value_refusals (stack_of rule) headers (length body)) ≡ None
       → IsCoapPut rule direction fields payload (packet_of rule direction fields payload)
   coap-put right =

@@ -615,6 +615,7 @@ module _ (rule : RuleData) (iids : Iids) (direction : Direction) (packet : List 
       ap (rebuilt_from rule direction) (reads_fields (octets payload ++ padding))
       ∙ ap (rebuilt rule direction again) whole ∙ rebuilt-restored
 
+  -- what a rule over CoAP writes of a packet that it matches is read back, whatever the padding
   pub IsReadBack-coap : (padding : List Bool) → AreBytes payload → length padding ≤ 7
       → IsReadBack rule iids direction packet
       (residue_of rule direction fields ++ (octets payload ++ padding))

@@ -38,6 +38,7 @@ module _ (rule : RuleData) (iids : Iids) (direction : Direction) (packet : List 
             s (subst (λ (of : Stack). PacketOf of direction packet fields from) s p) matches
       ]
 
+  -- what a rule writes of a packet that it matches is read back, whatever the padding
   pub read-back : (padding : List Bool) → IsAdmitted rule → AreBytes (drop from packet)
       → length padding ≤ 7
       → IsReadBack rule iids direction packet
@@ -53,6 +54,7 @@ module _ (rule : RuleData) (iids : Iids) (direction : Direction) (packet : List 
             padding bytes short
       ]
 
+  -- two packets that the rule restores from this one are the same
   pub restored-one : (this that : List ℕ) → IsAdmitted rule → IsRestored rule direction packet this
       → IsRestored rule direction packet that → AreBytes this → AreBytes that → this ≡ that
   restored-one this that admitted r t a b =

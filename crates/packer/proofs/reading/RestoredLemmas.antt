@@ -295,6 +295,7 @@ module _ (rule : RuleData) (iids : Iids) (direction : Direction) (packet : List 
       ∙ ap (rebuilt rule direction (restored_fields rule iids direction fields)) whole
       ∙ rebuilt-restored
 
+  -- what a rule without CoAP writes of a packet that it matches is read back, whatever the padding
   pub IsReadBack-fields : (padding : List Bool) → AreBytes (drop from packet) → length padding ≤ 7
       → IsReadBack rule iids direction packet
       (residue_of rule direction fields ++ (octets (drop from packet) ++ padding))
