@@ -1,5 +1,5 @@
 -- Groups of devices and their shares, one after the other.
-use Rattle.std.proofs.Common.{ℕ, zero, suc, ◌≡◌, ◌+◌, ◌-◌, ◌*◌, ◌/◌, ◌%◌, ◌<◌, ◌≤◌, List, [], ◌∷◌}
+use Rattle.std.proofs.Common.{ℕ, zero, suc, ◌≡◌, ◌+◌, ◌-◌, ◌*◌, ◌<◌, ◌≤◌, List, [], ◌∷◌}
 use Rattle.std.proofs.Common.{◌++◌, length, map, take, drop, All, slice_index_or, Option, Some}
 use Rattle.std.proofs.Common.{None, option_map, Result, Ok, Err, Vec, refl, sym, ap, ◌∙◌, subst}
 use Rattle.std.proofs.Common.{arith, cond, Bool, true, false, nat_lt}
@@ -37,20 +37,21 @@ params-front : (xs ys : List DeviceLine) → HaveParams (xs ++ ys) → HaveParam
 params-front [] ys all = (tt, all)
 params-front (x ∷ xs) ys all = let rest = params-front xs ys all.1 in ((all.0, rest.0), rest.1)
 
-params-each : (groups : List (Bor (List DeviceLine))) → HaveParams (joined (map now_of groups))
-    → AllByRecursion (λ (group : Bor (List DeviceLine)). HaveParams group.now) groups
-params-each [] all = tt
-params-each (group ∷ groups) all =
-    let parts = params-front group.now (joined (map now_of groups)) all in
-    (parts.0, params-each groups parts.1)
+module _ {G : Type 0} (devices_of : G → List DeviceLine) where
+  params-each : (groups : List G) → HaveParams (joined (map devices_of groups))
+      → AllByRecursion (λ (group : G). HaveParams (devices_of group)) groups
+  params-each [] all = tt
+  params-each (group ∷ groups) all =
+      let parts = params-front (devices_of group) (joined (map devices_of groups)) all in
+      (parts.0, params-each groups parts.1)
 
--- the devices of each group have parameters that ends may be made with, as all have
-pub group-params : (groups : List (Bor (List DeviceLine))) (devices : List DeviceLine)
-    → joined (map now_of groups) ≡ devices → HaveParams devices
-    → All (λ (group : Bor (List DeviceLine)). HaveParams group.now) groups
-group-params groups devices all range =
-    all-index (λ (group : Bor (List DeviceLine)). HaveParams group.now) groups
-    (params-each groups (subst HaveParams (sym all) range))
+  -- the devices of each group have parameters that ends may be made with, as all have
+  pub group-params : (groups : List G) (devices : List DeviceLine)
+      → joined (map devices_of groups) ≡ devices → HaveParams devices
+      → All (λ (group : G). HaveParams (devices_of group)) groups
+  group-params groups devices all range =
+      all-index (λ (group : G). HaveParams (devices_of group)) groups
+      (params-each groups (subst HaveParams (sym all) range))
 
 -- what all groups have, where the others are read
 behind : (share : DeviceLine → ℕ × List Line) (group others : List DeviceLine)
@@ -68,17 +69,19 @@ behind share group others shares all (Some rest) first later whole =
     same : (xs ys : List (ℕ × List Line)) → Some ys ≡ Some xs → xs ≡ ys
     same xs ys h = cc
 
-module _ {A E : Type 0} (share : DeviceLine → ℕ × List Line) where
-  abbrev pub Shared : List (Bor (List DeviceLine)) → List (Result (Vec (ℕ × List Line) A) E)
-      → Type 0
-  Shared groups made = (i : ℕ) (g : Bor (List DeviceLine)) (m : Result (Vec (ℕ × List Line) A) E)
-      → i < length groups → IsShared share (slice_index_or groups i g).now (slice_index_or made i m)
+module _ {A E G : Type 0} (devices_of : G → List DeviceLine)
+    (share : DeviceLine → ℕ × List Line) where
+  -- what was made at each place are the shares of the devices of the group there
+  abbrev pub Shared : List G → List (Result (Vec (ℕ × List Line) A) E) → Type 0
+  Shared groups made = (i : ℕ) (g : G) (m : Result (Vec (ℕ × List Line) A) E)
+      → i < length groups
+      → IsShared share (devices_of (slice_index_or groups i g)) (slice_index_or made i m)
 
   -- the shares of all groups are those of all devices
-  pub all-shared : (groups : List (Bor (List DeviceLine)))
-      (made : List (Result (Vec (ℕ × List Line) A) E)) (all : List (ℕ × List Line))
+  pub all-shared : (groups : List G) (made : List (Result (Vec (ℕ × List Line) A) E))
+      (all : List (ℕ × List Line))
       → length made ≡ length groups → Shared groups made
-      → shares_in made ≡ Some all → all ≡ map share (joined (map now_of groups))
+      → shares_in made ≡ Some all → all ≡ map share (joined (map devices_of groups))
   all-shared [] [] all same each whole = none all whole
     where
       none : (xs : List (ℕ × List Line)) → Some [] ≡ Some xs → xs ≡ []
@@ -86,7 +89,8 @@ module _ {A E : Type 0} (share : DeviceLine → ℕ × List Line) where
   all-shared [] (m ∷ made) all same each whole = absurd (omega arith)
   all-shared (group ∷ groups) [] all same each whole = absurd (omega arith)
   all-shared (group ∷ groups) (Ok shares ∷ made) all same each whole =
-      behind share group.now (joined (map now_of groups)) shares.items all (shares_in made)
+      behind share (devices_of group) (joined (map devices_of groups)) shares.items all
+      (shares_in made)
       (each 0 group (Ok shares) (omega arith))
       (λ rest is. all-shared groups made rest (omega arith)
       (λ i g m less. each (suc i) g m (omega arith)) is) whole
@@ -103,7 +107,9 @@ extra place longer false is = let past : longer ≤ place = ltb-false place long
 
 -- one group less is to be cut of what is left
 pub cut-less : (workers place size longer : ℕ) → place < workers
-    → (workers - place) * size + (longer - place) ≡ ((workers - (place + 1)) * size + (longer - (place + 1))) + (size + cond (nat_lt place longer) 1 0)
+    → (workers - place) * size + (longer - place)
+    ≡ ((workers - (place + 1)) * size + (longer - (place + 1)))
+    + (size + cond (nat_lt place longer) 1 0)
 cut-less workers place size longer less =
     let step : workers - place ≡ (workers - (place + 1)) + 1 = omega arith in
     let parts = mul-more (workers - (place + 1)) size in

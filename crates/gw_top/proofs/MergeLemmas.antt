@@ -242,6 +242,7 @@ module _ (devices : List DeviceLine) (before rest : List ScriptEventData) (e : S
         empty : (y : Line) (ys : List Line) → [] ≡ y ∷ ys → ⊥
         empty y ys h = cc
 
+    -- behind a publication what is left is that of the events that follow
     pub published-left : (published after : List Line) (own : ℕ → Option (List Line))
         (result : Option Line) → is_publication e.event ≡ true
         → IfSome result (λ line. published ≡ line ∷ after) → IfNone result (published ≡ [])
@@ -258,12 +259,14 @@ module _ (devices : List DeviceLine) (before rest : List ScriptEventData) (e : S
     -- the first of its device's lines, where it is none
     pub own_line-is : (published : List Line) (own : ℕ → Option (List Line)) (result : Option Line)
         (number : ℕ) → number ≡ e.device → is_publication e.event ≡ false
-        → ((line : Line) (lines : List Line) → own number ≡ Some (line ∷ lines) → result ≡ Some line)
+        → ((line : Line) (lines : List Line) → own number ≡ Some (line ∷ lines)
+        → result ≡ Some line)
         → IsOwned devices e → IsLeft devices before (e ∷ rest) published own
         → result ≡ Some (outcome devices before e)
     own_line-is published own result number same is first owned left =
         first _ _ (ap own same ∙ first-own devices before rest e published own left is owned)
 
+    -- behind an event of a device what is left is that of the events that follow
     pub own-left : (published : List Line) (own after : ℕ → Option (List Line)) (number : ℕ)
         → number ≡ e.device → is_publication e.event ≡ false
         → ((line : Line) (lines : List Line) → own number ≡ Some (line ∷ lines) → (other : ℕ)
@@ -272,8 +275,8 @@ module _ (devices : List DeviceLine) (before rest : List ScriptEventData) (e : S
         → IsLeft devices (before ++ e ∷ []) rest published after
     own-left published own after number same is changed owned left =
         left-own devices before rest e published own left after is
-        (λ n. changed _ _ (ap own same ∙ first-own devices before rest e published own left is owned)
-        n
+        (λ n. changed _ _
+        (ap own same ∙ first-own devices before rest e published own left is owned) n
         ∙ ap (λ m. if nat_eq m n then Some
         (own_lines e.device (world_of e.device devices (before ++ e ∷ [])) rest) else own n) same)
 
@@ -314,6 +317,7 @@ module _ (devices : List DeviceLine) (events left rest : List ScriptEventData) (
   pub merged-line : result ≡ Some (outcome devices merged-here.before e)
   merged-line = is devices merged-here.before rest merged-here.owned.0 merged-here.lines_left
 
+  -- with one more line what is merged goes as far as the event that is next
   pub merged-next : (more published' : List Line) (own' : ℕ → Option (List Line)) (line : Line)
       → ((declared : List DeviceLine) (before after : List ScriptEventData) → IsOwned declared e
       → IsLeft declared before (e ∷ after) published own

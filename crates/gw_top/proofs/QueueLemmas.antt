@@ -1,5 +1,5 @@
 -- Lines that are put last and taken first.
-use Rattle.std.proofs.Common.{◌≡◌, List, [], ◌∷◌, ◌++◌, Option, Some, None, IfSome, subst, sym}
+use Rattle.std.proofs.Common.{◌≡◌, List, [], ◌∷◌, ◌++◌, Option, Some, IfSome, subst, sym}
 use Rattle.std.specs.List.{AllByRecursion}
 use Rattle.event_data.specs.declared.outcomes.Line.{Line}
 use Rattle.transcripts.specs.Lines.{IsSaid}

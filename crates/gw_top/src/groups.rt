@@ -11,7 +11,7 @@ ghost use Rattle.gw_top.specs.Groups.{joined, IsEven, IsShared, shares_in};
 
 use crate::dealing::{Dealt, deal};
 use crate::queues::Queue;
-use crate::shares::shares;
+use crate::shares::{Job, jobs, shares};
 use rule_model::DeviceLine;
 use script_lang::ScriptEvent;
 use std::alloc::{AllocError, Global};
@@ -56,6 +56,25 @@ pub(crate) fn groups(
     Ok(groups)
 }
 
+/// The jobs of the devices of each group.
+///
+/// # Errors
+/// Want of memory.
+fn jobs_of_groups(
+    alloc: Global,
+    groups: &[&[DeviceLine]],
+    dealt: &Dealt,
+) -> Result<Vec<Vec<Job>>, AllocError>
+    ensures { IfOk result (λ made.
+        map (λ jobs. jobs.items) made.items ≡ map (λ group. group.now) groups.now) }
+{
+    let mut made = Vec::new(alloc);
+    for group in groups {
+        made.push(jobs(alloc, group, dealt)?)?;
+    }
+    Ok(made)
+}
+
 /// The shares of the devices of each group, as the workers make them.
 ///
 /// # Errors
@@ -63,25 +82,25 @@ pub(crate) fn groups(
 fn by_group<R: Threads + Sync>(
     rt: &R,
     alloc: Global,
-    groups: Vec<&[DeviceLine]>,
+    groups: Vec<Vec<Job>>,
     dealt: &Dealt,
 ) -> Result<Vec<Result<Vec<(u16, Queue)>, AllocError>>, AllocError>
-    requires { All (λ group. HaveParams group.now) groups.items }
-    ensures count { IfOk result (λ made. vec_len made ≡ vec_len groups.entry) }
+    requires { All (λ group. HaveParams group.items) groups.items }
+    ensures count { IfOk result (λ made. vec_len made ≡ vec_len groups) }
     ensures shared { IfOk result (λ made.
         (i : ℕ) (group : _) (m : _)
-        → i < vec_len groups.entry
+        → i < vec_len groups
         → IsShared (share_from dealt.now)
-        (slice_index_or groups.entry.items i group).now
+        (slice_index_or groups.items i group).items
         (slice_index_or made.items i m)) }
 {
     thread::map_vec(
         rt,
         groups,
-        &|group: &[DeviceLine]| -> Result<Vec<(u16, Queue)>, AllocError>
-            requires { HaveParams group.now }
+        &|group: Vec<Job>| -> Result<Vec<(u16, Queue)>, AllocError>
+            requires { HaveParams group.items }
             ensures { IfOk result (λ made.
-                made.items ≡ map (share_from dealt.entry.now) group.entry.now) }
+                made.items ≡ map (share_from dealt.entry.now) group.items) }
         { shares(alloc, group, dealt) },
     )
 }
@@ -127,7 +146,8 @@ pub(crate) fn shared<R: Threads + Sync>(
 {
     let groups = groups(alloc, devices, workers)?;
     let dealt = deal(alloc, devices, events)?;
-    let made = by_group(rt, alloc, groups, &dealt)?;
+    let jobs = jobs_of_groups(alloc, groups.as_slice(), &dealt)?;
+    let made = by_group(rt, alloc, jobs, &dealt)?;
     let all = all_shares(alloc, made)?;
     Ok(all)
 }

@@ -27,6 +27,7 @@ use schc_ids::{EndParams, Iids};
 use script_lang::ScriptEvent;
 use std::alloc::{AllocError, Global};
 use std::cmp::min;
+use std::marker::Model;
 use two_ends::World;
 
 /// Whether an edition is published.
@@ -97,18 +98,69 @@ fn due<'a, 'b>(
     front
 }
 
-/// The outcomes of these turns of a device, whose world this is before the first of them. Each turn
-/// comes behind as many publications as stand before it.
-fn own_lines(
+/// A device whose events are still to be run, and the queue for their outcomes, in which none is
+/// yet. A contract sees the device.
+#[derive(Drop)]
+pub(crate) struct Job {
+    device: DeviceLine,
+    queue: Queue,
+}
+
+impl Model for Job {
+    ghost use Rattle.std.specs.Prelude.{◌≡◌, []};
+    ghost use Rattle.rule_model.specs.declared.raw.DeviceLine.{DeviceLine};
+
+    ghost Value = { DeviceLine };
+
+    ghost view = { λ j. j.device };
+
+    ghost invariant = { λ j. j.queue ≡ [] };
+}
+
+/// A device's job, whose queue has room for the outcomes of all events that are dealt out to it.
+fn job_of(alloc: Global, device: &DeviceLine, dealt: &Dealt) -> Result<Job, AllocError>
+    ensures { IfOk result (λ made. made ≡ device.now) }
+{
+    let lines = match dealt.turns_of(device.number) {
+        Some(turns) => turns.as_slice().len(),
+        None => 0,
+    };
+    Ok(Job {
+        device: *device,
+        queue: Queue::with_room(alloc, lines)?,
+    })
+}
+
+/// The jobs of these devices. They are made before the work is shared out: an allocation by many
+/// threads costs more than one by one.
+///
+/// # Errors
+/// Want of memory.
+pub(crate) fn jobs(
     alloc: Global,
+    devices: &[DeviceLine],
+    dealt: &Dealt,
+) -> Result<Vec<Job>, AllocError>
+    ensures { IfOk result (λ jobs. jobs.items ≡ devices.now) }
+{
+    let mut jobs = Vec::with_capacity(alloc, devices.len())?;
+    for device in devices {
+        jobs.push(job_of(alloc, device, dealt)?)?;
+    }
+    Ok(jobs)
+}
+
+/// Puts the outcomes of these turns of a device last into the queue. This is its world before the
+/// first of them. Each turn comes behind as many publications as stand before it.
+fn own_lines(
     world: &mut World,
     publications: &[&WorldEvent],
     turns: &[Turn],
-) -> Result<Queue, AllocError>
-    ensures { IfOk result (λ queue.
-        queue ≡ lines_of_turns world.old (seen publications.now) 0 turns.now) }
+    queue: &mut Queue,
+) -> Result<(), AllocError>
+    ensures { OnOk result (
+        queue.new ≡ queue.old ++ lines_of_turns world.old (seen publications.now) 0 turns.now) }
 {
-    let mut queue = Queue::with_room(alloc, turns.len())?;
     let mut done = 0;
     for turn in turns {
         let before = turn.before;
@@ -117,38 +169,46 @@ fn own_lines(
         queue.push(line)?;
         done = before;
     }
-    Ok(queue)
+    Ok(())
 }
 
 /// A device's number, and the outcomes of its events.
-fn share(alloc: Global, device: &DeviceLine, dealt: &Dealt) -> Result<(u16, Queue), AllocError>
-    requires { IsParams device.now.params }
-    ensures { IfOk result (λ share. share ≡ share_from dealt.now device.now) }
+fn share(alloc: Global, job: Job, dealt: &Dealt) -> Result<(u16, Queue), AllocError>
+    requires { IsParams job.params }
+    ensures { IfOk result (λ share. share ≡ share_from dealt.now job) }
 {
+    let device = job.device;
+    let mut queue = job.queue;
     let Some(turns) = dealt.turns_of(device.number) else {
-        return Ok((device.number, Queue::new(alloc)));
+        return Ok((device.number, queue));
     };
     let mut world = first_world(alloc, device.params)?;
-    let queue = own_lines(alloc, &mut world, dealt.publications(), turns.as_slice());
+    let made = own_lines(
+        &mut world,
+        dealt.publications(),
+        turns.as_slice(),
+        &mut queue,
+    );
     drop(world);
-    Ok((device.number, queue?))
+    made?;
+    Ok((device.number, queue))
 }
 
-/// The shares of these devices.
+/// The shares of the devices of these jobs.
 ///
 /// # Errors
 /// Want of memory.
 pub(crate) fn shares(
     alloc: Global,
-    devices: &[DeviceLine],
+    jobs: Vec<Job>,
     dealt: &Dealt,
 ) -> Result<Vec<(u16, Queue)>, AllocError>
-    requires { HaveParams devices.now }
-    ensures { IfOk result (λ shares. shares.items ≡ map (share_from dealt.now) devices.now) }
+    requires { HaveParams jobs.items }
+    ensures { IfOk result (λ shares. shares.items ≡ map (share_from dealt.now) jobs.items) }
 {
-    let mut shares = Vec::new(alloc);
-    for device in devices {
-        shares.push(share(alloc, device, dealt)?)?;
+    let mut shares = Vec::with_capacity(alloc, jobs.len())?;
+    for job in jobs {
+        shares.push(share(alloc, job, dealt)?)?;
     }
     Ok(shares)
 }

@@ -1,6 +1,5 @@
-use Rattle.std.proofs.Common.{rules, ◌≡◌, ◌/◌, ◌%◌, ℕ, length, arith, subst, sym}
-use Rattle.std.specs.List.{AllByRecursion}
-use Rattle.gw_top.proofs.GroupLemmas.{now_of, joined-step, cut-less, even-step}
+use Rattle.std.proofs.Common.{rules, ◌/◌, ◌%◌, ℕ, length, arith}
+use Rattle.gw_top.proofs.GroupLemmas.{joined-step, cut-less, even-step}
 use Rattle.gw_top.proofs.groups.groups.Goals as goal
 
 -- one more group, and what is left behind it

@@ -6,4 +6,4 @@ use Rattle.gw_top.proofs.shares.own_lines.Given as goal
 abbrev pub invariant-loop-turn : goal.invariant-loop-turn
 invariant-loop-turn l =
     l.queue ++ lines_of_turns l.world (seen l.publications) l.done (drop l.turn-index l.turns)
-    ≡ lines_of_turns l.initial.world (seen l.publications) 0 l.turns
+    ≡ l.initial.queue ++ lines_of_turns l.initial.world (seen l.publications) 0 l.turns
