@@ -10,7 +10,7 @@ use Rattle.outside.specs.Reading.{HasMore, IsContent, ReadsAll, CountsFailedRead
 use Rattle.outside.specs.declared.loops.ReadAllFault.{ReadAllFault}
 use Rattle.outside.specs.declared.loops.ReadAllFault.TheVariants.{Fault, TooLong, Memory}
 use Rattle.schc_ids.specs.Limits.{max_input}
-use Rattle.gw_top.specs.Answers.{Call, IsRead, IsInput, GivesInput, IsGiven}
+use Rattle.gw_top.specs.Answers.{Call, IsRead, IsInput, GivesInput, IsGiven, LeavesUnread}
 
 -- what came whole is the command's input
 pub input-given : {A : Type 0} (reads : Bool) (call : Call) (text : Vec ℕ A)
@@ -18,6 +18,13 @@ pub input-given : {A : Type 0} (reads : Bool) (call : Call) (text : Vec ℕ A)
 input-given true call text gave =
     record { consumed = gave.0.2; ended = gave.0.3; within = gave.0.0 }
 input-given false call text gave = gave
+
+-- what a command that reads no input is given leaves the source as it was
+pub unread_left : {A : Type 0} (reads : Bool) (result : Result (Vec ℕ A) ReadAllFault)
+    (old new : SourceState) → GivesInput reads result old new → LeavesUnread reads old new
+unread_left true result old new gave = tt
+unread_left false (Ok text) old new gave = gave.1
+unread_left false (Err fault) old new gave = absurd gave
 
 content-is : (left : Option (List ℕ)) (bytes text : List ℕ) → IsContent left bytes
     → left ≡ Some text → text ≡ bytes

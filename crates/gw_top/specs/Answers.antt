@@ -2,7 +2,7 @@
 use Rattle.std.specs.Prelude.{◌≡◌, ◌↔◌, ℕ, ◌+◌, ◌<◌, ◌≤◌, ◌⊎◌, nat_lt, if◌then◌else◌, Bool, true}
 use Rattle.std.specs.Prelude.{false, List, [], length, take, map, String, string_bytes, Option}
 use Rattle.std.specs.Prelude.{Some, None, Result, Ok, Err, Vec}
-use Rattle.std.specs.Io.KnownBytes.{Consumes, Appends, Keeps, IsAtEnd}
+use Rattle.std.specs.Io.KnownBytes.{Consumes, Appends, IsAtEnd}
 use Rattle.outside.specs.Counting.{Rose}
 use Rattle.outside.specs.States.{SourceState, SinkState}
 use Rattle.outside.specs.Reading.{HasMore, ReadsAll, CountsFailedReading}
@@ -166,23 +166,29 @@ IsPastLimit counted number call =
     ((counted ≡ Bytes) × (number ≡ max_input + 1) × ReadsInput call × IsTooLong call)
     ⊎ IsNoInput call (TooMany counted number)
 
--- no more than this number of bytes was read, the first ones, and nothing was written
+-- no more than this number of bytes was read, the first ones, and the sink is as it was
 pub record ReadsFront (call : Call) (most : ℕ) : Type 0 where
   pub front : List ℕ
   pub within : length front ≤ most
   pub consumed : Consumes call.source.left call.source_after.left front
-  pub sink : Keeps call.sink.written call.sink_after.written
+  pub sink : call.sink_after ≡ call.sink
 
 -- the most bytes that are read, by whether the command reads its input
 abbrev pub most_read : Bool → ℕ
 most_read true = max_input + 1
 most_read false = 0
 
--- the words name a command, of whose input no more was read than it may, and nothing was written
+-- the source is as it was, where the command reads no input
+abbrev pub LeavesUnread : Bool → SourceState → SourceState → Type 0
+LeavesUnread true old new = Unit {0}
+LeavesUnread false old new = new ≡ old
+
+-- the words name a command, of whose input no more was read than it may, and the sink is as it was
 pub record LacksMemory (call : Call) : Type 0 where
   pub command : Command
   pub named : command_of call.words ≡ Ok command
   pub front : ReadsFront call (most_read (reads_input command))
+  pub unread : LeavesUnread (reads_input command) call.source call.source_after
 
 -- nothing was read, and nothing was written
 pub record TouchesNothing (call : Call) : Type 0 where
@@ -194,14 +200,14 @@ abbrev pub Answers : Status → Call → Type 0
 Answers status.Ok call = IsDone call
 Answers (status.Refused finding) call = IsRefused call finding
 Answers (status.Usage place) call = (command_of call.words ≡ Err place) × TouchesNothing call
-Answers (status.BadInput line) call = IsNoInput call (BadLine line)
-    × Keeps call.sink.written call.sink_after.written
+Answers (status.BadInput line) call =
+    IsNoInput call (BadLine line) × (call.sink_after ≡ call.sink)
 Answers status.ReadFault call =
     ReadsInput call × Rose call.source.faults call.source_after.faults × ReadsFront call max_input
 Answers status.WriteFault call = Rose call.sink.faults call.sink_after.faults × WritesFront call
 Answers status.Memory call = LacksMemory call
-Answers (status.Limit counted number) call = IsPastLimit counted number call
-    × Keeps call.sink.written call.sink_after.written
+Answers (status.Limit counted number) call =
+    IsPastLimit counted number call × (call.sink_after ≡ call.sink)
 
 -- the status for what a command makes of its input, want of memory and faults aside
 abbrev pub status_with : Option Finding → Status

@@ -40,6 +40,7 @@ fn input_of<S: Source>(
 /// each of its events; `load` reads nothing, makes a script of two numbers, and writes one line
 /// with the sums over its
 /// run. What is written doesn't depend on the number of workers.
+#[tactic(auto, using(crate::proofs::InputLemmas::unread_left))]
 pub fn run<R: Threads + AllocGlobal + Sync, S: Source, K: Sink>(
     rt: &R,
     words: &[String],

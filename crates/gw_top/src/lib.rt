@@ -1,4 +1,5 @@
-//! The top calls.
+//! The top call. [`run`] reads the words of a call, and its source where the command has an input,
+//! writes what the command prints to its sink, and answers a [`Status`].
 #![tactic(auto)]
 
 mod command;
