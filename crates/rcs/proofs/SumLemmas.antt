@@ -12,7 +12,7 @@ use Rattle.std.proofs.Math.Seq.{drop-append-add, take-add}
 use Rattle.schc_bits.specs.Bits.{number_bits, bits_value, octets, padded, first_bytes, bytes_of}
 use Rattle.schc_bits.specs.Bits.{number_at, AreBytes}
 use Rattle.schc_bits.proofs.NumberBits.{number_bits-append, number_bits-mod, length-number_bits}
-use Rattle.schc_bits.proofs.NumberBits.{bits_value-number_bits, take-number_bits, drop-number_bits}
+use Rattle.schc_bits.proofs.NumberBits.{bits_value-number_bits}
 use Rattle.schc_bits.proofs.Octets.{length-octets, take-octets, drop-octets, bytes_of-octets-append}
 use Rattle.schc_bits.proofs.Octets.{bytes_of-append-drop, AreBytes-bytes_of, bytes_of-short}
 use Rattle.schc_bits.proofs.Octets.{bytes_of-padded-more, padded-append, padded-whole}
@@ -201,15 +201,6 @@ check-begun word count part some short h =
     in
     sym (ap (λ x. 4294967295 - word_after word x) byte)
 
--- some bits of a byte
-pub within-bits : (byte first width low : ℕ) → first + (width + low) ≡ 8
-    → number_bits width (byte / 2 ^ low % 2 ^ width) ≡ take width (drop first (number_bits 8 byte))
-within-bits byte first width low e =
-    number_bits-mod width (byte / 2 ^ low)
-    ∙ sym (take-number_bits width low byte)
-    ∙ ap (λ bits. take width bits) (sym (drop-number_bits first (width + low) byte))
-    ∙ ap (λ n. take width (drop first (number_bits n byte))) e
-
 byte-piece : (byte r width : ℕ) (rest : List Bool) → r + width ≤ 8
     → take width (drop r (number_bits 8 byte)) ≡ take width (drop r (number_bits 8 byte ++ rest))
 byte-piece byte r width rest h =
@@ -315,10 +306,6 @@ pub rcs-from : (value : ℕ) (begin first last : Sum) (bits rest : List Bool) �
     → value ≡ rcs_of bits
 rcs-from value begin first last bits rest e f g h = h
     ∙ ap check_of_sum (g ∙ f ∙ ap (λ s. added s bits) e) ∙ check-sums bits
-
--- sizes of the numbers that a register joins
-pub one-shl : (k : ℕ) → k ≤ 8 → 1 * 2 ^ k % 4294967296 ≡ 2 ^ k
-one-shl k h = let few : 2 ^ k ≤ 2 ^ 8 = pow_mono h in omega (arith, few)
 
 -- a number in `count` bits with one in `width` bits behind it is one in `count + width` bits
 pub window-below : (count part width value : ℕ) → part < 2 ^ count → value < 2 ^ width

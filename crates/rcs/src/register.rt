@@ -6,7 +6,7 @@ ghost use Rattle.rcs.specs.Division.{rcs_of};
 ghost use Rattle.rcs.specs.Words.{empty_sum, sum_of, added, Sums, check_of_sum};
 
 use crate::words::next_word;
-use schc_bits::{BitReader, Bits};
+use schc_bits::{BitReader, Bits, bits_within};
 use std::marker::Model;
 
 /// The reassembly check sequence (RFC 8724, section 8.2.3) of the bits. It takes no memory.
@@ -206,13 +206,4 @@ fn joined(part: u32, count: u32, value: u32, width: u32) -> u32
     ensures below { result < 2 ^ (count + width) }
 {
     (part << width) + value
-}
-
-/// The number that the `width` bits of the byte from the index `first` on write.
-fn bits_within(byte: u8, first: u32, width: u32) -> u32
-    requires within { first + width ≤ 8 }
-    ensures bits { number_bits width result ≡ take width (drop first (number_bits 8 byte)) }
-    ensures below { result < 2 ^ width }
-{
-    (u32::from(byte) >> (8 - first - width)) % (1 << width)
 }

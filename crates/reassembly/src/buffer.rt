@@ -4,9 +4,9 @@ ghost use Rattle.std.specs.Prelude.{ℕ, ◌≡◌, ◌+◌, ◌-◌, ◌*◌, �
 ghost use Rattle.schc_bits.specs.Bits.{number_bits, octets};
 ghost use Rattle.reassembly.specs.Joining.{reassembly_bits, has_room, passes};
 
-use crate::pieces::{bits_within, with_bits};
+use crate::pieces::with_bits;
 use rcs::Register;
-use schc_bits::Bits;
+use schc_bits::{Bits, bits_within};
 use schc_ids::limits::REASSEMBLY_BYTES;
 use std::alloc::{AllocError, Global};
 use std::marker::Model;

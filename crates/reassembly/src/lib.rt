@@ -1,5 +1,7 @@
-//! What a receiver of fragments keeps of the packet that comes in parts (RFC 8724 section 8.4), in a
-//! buffer that is made once.
+//! What a receiver of fragments keeps of the packet that comes in parts (RFC 8724 section 8.4).
+//!
+//! A [`Reassembly`] has the parts one behind the other, in a buffer that is made once, makes the
+//! check over them and joins them.
 #![tactic(auto)]
 
 mod buffer;

@@ -6,6 +6,7 @@ use Rattle.std.proofs.Common.{arith, ap, refl, sym, ◌∙◌}
 use Rattle.std.proofs.lemmas.List.{append-nil, length-append, take_more, take_at, drop_at}
 use Rattle.std.proofs.lemmas.Nat.{pow-add, shr-shr, mod-pow-add, field_of, div-mul-add, mod-mul-add}
 use Rattle.std.proofs.Math.Nat.{pow-suc, zero-div, mod-eq_of_lt}
+use Rattle.std.proofs.Math.Pow.{pow_mono}
 use mir.Val.{bool_byte}
 use Rattle.schc_bits.specs.Bits.{number_bits, bits_value, octets}
 
@@ -220,3 +221,16 @@ pub number_bits-bit : (bit : Bool) → number_bits 1 (bool_byte bit) ≡ bit ∷
 unfolding number_bits
 number_bits-bit true = refl
 number_bits-bit false = refl
+
+-- some bits of a byte write its quotient by the bits behind them, without the bits before them
+pub within-bits : (byte first width low : ℕ) → first + (width + low) ≡ 8
+    → number_bits width (byte / 2 ^ low % 2 ^ width) ≡ take width (drop first (number_bits 8 byte))
+within-bits byte first width low e =
+    number_bits-mod width (byte / 2 ^ low)
+    ∙ sym (take-number_bits width low byte)
+    ∙ ap (λ bits. take width bits) (sym (drop-number_bits first (width + low) byte))
+    ∙ ap (λ n. take width (drop first (number_bits n byte))) e
+
+-- a one that is moved up to at most 8 bits loses nothing in a word of 32 bits
+pub one-shl : (k : ℕ) → k ≤ 8 → 1 * 2 ^ k % 4294967296 ≡ 2 ^ k
+one-shl k h = let few : 2 ^ k ≤ 2 ^ 8 = pow_mono h in omega (arith, few)

@@ -4,7 +4,8 @@ use Rattle.std.proofs.lemmas.List.{drop_all}
 use Rattle.std.proofs.lemmas.Nat.{mod_below, pow_pos}
 use Rattle.schc_bits.specs.Bits.{octets}
 use Rattle.rcs.specs.Words.{sum_of, added}
-use Rattle.rcs.proofs.SumLemmas.{bytes-more, bytes-none, full-byte, one-shl}
+use Rattle.schc_bits.proofs.NumberBits.{one-shl}
+use Rattle.rcs.proofs.SumLemmas.{bytes-more, bytes-none, full-byte}
 use Rattle.rcs.proofs.register.after_bytes.Goals as goal
 
 pub loop-byte-preserved : goal.loop-byte-preserved

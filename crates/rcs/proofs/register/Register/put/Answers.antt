@@ -2,7 +2,8 @@ use Rattle.std.proofs.Common.{ℕ, ◌≡◌, ◌+◌, ◌-◌, ◌*◌, ◌/◌
 use Rattle.std.proofs.lemmas.Nat.{shr_below}
 use Rattle.schc_bits.specs.Bits.{number_bits}
 use Rattle.rcs.specs.Words.{added, byte_step}
-use Rattle.rcs.proofs.SumLemmas.{put-short, put-long, one-shl}
+use Rattle.schc_bits.proofs.NumberBits.{one-shl}
+use Rattle.rcs.proofs.SumLemmas.{put-short, put-long}
 use Rattle.rcs.proofs.register.Register.put.Goals as goal
 
 pub returns-then-total-lt8 : goal.returns-then-total-lt8

@@ -1,7 +1,7 @@
 use Rattle.std.proofs.Common.{◌-◌, ◌/◌, ◌%◌, ◌^◌, arith, ap, ◌∙◌}
 use Rattle.schc_bits.specs.Bits.{number_bits}
-use Rattle.rcs.proofs.SumLemmas.{within-bits, one-shl}
-use Rattle.rcs.proofs.register.bits_within.Goals as goal
+use Rattle.schc_bits.proofs.NumberBits.{within-bits, one-shl}
+use Rattle.schc_bits.proofs.octet.bits_within.Goals as goal
 
 pub returns-clause-bits : goal.returns-clause-bits
 returns-clause-bits c =
