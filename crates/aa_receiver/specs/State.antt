@@ -8,10 +8,9 @@ use Rattle.aa_receiver.specs.declared.states.State.TheVariants as state
 use Rattle.aa_receiver.specs.declared.states.TileAnswer.{TileAnswer}
 
 -- Empty, and whether a Receiver-Abort is due; gathering, with the bits of the tiles that are kept,
--- their count, and the answer
--- that is due, with a C of 0: a window and whether its tile came; finished, with the window of the
--- All-1 that passed the check,
--- and whether an answer, with a C of 1, is due
+-- their count, and the answer that is due, with a C of 0: a window and whether its tile came;
+-- finished, with the window of the All-1 that passed the check, and whether an answer, with a C of
+-- 1, is due
 pub data AaReceiverData : Type 0 where
   Empty : Bool → AaReceiverData
   Gathering : List Bool → ℕ → Option TileAnswer → AaReceiverData

@@ -1,6 +1,5 @@
 -- RFC 8724, section 8.4.2.2: what a receiver in the ACK-Always mode does with each message, what it
--- answers, and what its timers
--- do.
+-- answers, and what its timers do.
 use Rattle.std.specs.Prelude.{ℕ, suc, ◌%◌, ◌==◌, Bool, true, false, if◌then◌else◌, List, [], ◌++◌}
 use Rattle.std.specs.Prelude.{Option, None, Some, option_map}
 use Rattle.schc_ids.specs.Fragments.{params_of}
@@ -52,8 +51,7 @@ regular_step w part (Gathering bits count answer) =
 regular_step w part (Finished last answer) = (Finished last answer, note.Remnant)
 
 -- the last tile, of the open window: whether there is room for it, and whether the check passes
--- over what is kept and the tile,
--- which isn't kept where it fails
+-- over what is kept and the tile, which isn't kept where it fails
 unfoldable pub last_tile : List Bool → ℕ → ℕ → Bool → Bool → AaReceiverData × Note
 last_tile bits count w false passed = (Empty true, note.Overflow)
 last_tile bits count w true true = (Finished w true, note.Joined)

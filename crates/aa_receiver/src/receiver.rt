@@ -3,7 +3,8 @@
 ghost use Rattle.std.specs.Prelude.{◌≡◌, ◌≤◌, length, None, option_map, IfOk, IfSome, OnOk, OnErr, IsSome};
 ghost use Rattle.schc_ids.specs.Fragments.{params_of};
 ghost use Rattle.reassembly.specs.Joining.{reassembly_bits};
-ghost use Rattle.aa_receiver.specs.Fragments.{IsFragment, MayJoin, payload_of};
+ghost use Rattle.frag_wire.specs.Fragments.{MayJoin, payload_of};
+ghost use Rattle.aa_receiver.specs.Fragments.{IsFragment};
 ghost use Rattle.aa_receiver.specs.State.{IsAaReceiver, empty_receiver, receiver_phase, received, StandsIn};
 ghost use Rattle.aa_receiver.specs.Steps.{taken, previewed, idled, lapsed, due_answer, due_bytes, answered};
 

@@ -2,7 +2,8 @@
 
 ghost use Rattle.std.specs.Prelude.{ℕ, ◌≡◌, ◌+◌, ◌*◌, ◌%◌, ◌^◌, ◌==◌, ◌<◌, ◌≤◌, Bool, true, false, List, [], length, Some, IfOk, IfSome, OnErr, IsSome};
 ghost use Rattle.reassembly.specs.Joining.{reassembly_bits, has_room, passes};
-ghost use Rattle.aa_receiver.specs.Fragments.{IsFragment, payload_of, bits_from};
+ghost use Rattle.frag_wire.specs.Fragments.{payload_of, bits_from};
+ghost use Rattle.aa_receiver.specs.Fragments.{IsFragment};
 ghost use Rattle.aa_receiver.specs.State.{received, IsDue, StandsIn};
 ghost use Rattle.aa_receiver.specs.Steps.{taken, checked_part, all1_check, passed, due_answer, answered, open_window, entered, regular_step, all1_step, ack_req_step, abort_step, other_step, next_tile, before, last_tile, finished_step};
 

@@ -2,4 +2,3 @@ pub mod ArrivalLemmas
 pub mod KeptLemmas
 pub mod SenderLemmas
 pub mod SessionLemmas
-pub mod TileLemmas

@@ -1,18 +1,14 @@
 -- The session of a sender stays the same, and its All-1 carries its check.
-use Rattle.std.specs.Prelude.{ℕ, ◌≡◌, ◌↔◌, ◌⊎◌, ◌==◌, Bool, true, false, List, [], Option, Some}
+use Rattle.std.specs.Prelude.{ℕ, ◌≡◌, ◌↔◌, ◌==◌, Bool, true, false, List, [], Some}
 use Rattle.std.specs.Prelude.{None, option_map}
 use Rattle.std.proofs.Common.{ap, inl, inr, refl, sym, ◌∙◌}
 use Rattle.schc_ids.specs.Fragments.{params_of, IsFragParams}
 use Rattle.schc_ids.specs.declared.fragments.FragParams.{FragParams}
 use Rattle.schc_ids.specs.declared.fragments.Side.TheVariants as side
-use Rattle.schc_ids.specs.declared.phases.SenderPhase.{SenderPhase}
-use Rattle.schc_ids.specs.declared.phases.SenderPhase.TheVariants as phase
-use Rattle.frag_wire.specs.Layouts.{placed, written}
-use Rattle.frag_wire.specs.Spells.{Spells, CanSpell}
-use Rattle.frag_wire.specs.declared.message.Message.{Message}
+use Rattle.frag_wire.specs.Spells.{Spells}
 use Rattle.frag_wire.specs.declared.message.Message.TheVariants as form
-use Rattle.frag_wire.proofs.LawsLemmas.{spelled-once}
-use Rattle.frag_wire.proofs.WrittenLemmas.{IsWritten-written}
+use Rattle.frag_wire.proofs.DueLemmas.{IsStill, sending-moves, closing-moves, written-check}
+use Rattle.frag_wire.proofs.DueLemmas.{some-bytes, some-check, none-check}
 use Rattle.rcs.specs.Division.{rcs_of}
 use Rattle.tiles_bitmap.specs.Padding.{padded_packet}
 use Rattle.aa_sender.specs.Laws.{KeepsSession, NoneDue, All1Checks}
@@ -36,17 +32,6 @@ keeps_session sender =
       aborts = record { params = refl; mtu = refl; bits = refl };
     }
 
-abbrev IsStill : SenderPhase → Type 0
-IsStill at = (at ≡ phase.Waiting) ⊎ (at ≡ phase.Quiet)
-
-sending-moves : IsStill phase.Sending → ⊥
-sending-moves (inl e) = cc
-sending-moves (inr e) = cc
-
-closing-moves : IsStill phase.Closing → ⊥
-closing-moves (inl e) = cc
-closing-moves (inr e) = cc
-
 none-in : (sender : AaSenderData) (state : AaSenderState)
     → (option_map (bytes_due sender.params) (due_in sender state) ≡ None) ↔ IsStill (phase_in state)
 unfolding due_in
@@ -60,39 +45,8 @@ pub none_due : NoneDue
 unfolding due_message
 none_due sender = none-in sender sender.state
 
--- the check that a message carries
-abbrev check_in : Message → Option ℕ
-check_in (form.All1 w rcs from) = Some rcs
-check_in (form.Regular w fcn from) = None
-check_in (form.Ack w c bitmap) = None
-check_in (form.AckReq w) = None
-check_in form.SenderAbort = None
-check_in form.ReceiverAbort = None
-
--- bytes that were written for a message and are an All-1 carry the message's check
-written-check : (params : FragParams) (message : Message) (payload other : List Bool)
-    (bytes : List ℕ) (w rcs from : ℕ) → IsFragParams params
-    → CanSpell params side.Fragments message payload →
-    written params message payload ≡ bytes
-    → Spells params side.Fragments (form.All1 w rcs from) other bytes
-    → Some rcs ≡ check_in (placed params message)
-written-check params message payload other bytes w rcs from row can e spells =
-    let is = IsWritten-written params side.Fragments message payload bytes row can (sym e) in
-    ap check_in
-    (spelled-once params side.Fragments bytes (form.All1 w rcs from) (placed params message)
-    other _ spells is.spells).0
-
 row-of : (sender : AaSenderData) → IsAaSender sender → IsFragParams sender.params
 row-of sender is = is.row ∙ ap (λ (p : FragParams). params_of p.mode) (sym is.row)
-
-some-bytes : (first second : List ℕ) → Some first ≡ Some second → first ≡ second
-some-bytes first second e = cc
-
-some-check : (first second : ℕ) → Some first ≡ Some second → first ≡ second
-some-check first second e = cc
-
-none-check : (rcs : ℕ) → ◌≡◌ {A = Option ℕ} (Some rcs) None → ⊥
-none-check rcs e = cc
 
 fragment-checks : (sender : AaSenderData) (i : ℕ) (is_last : Bool) (bytes : List ℕ) (w rcs from : ℕ)
     (payload : List Bool) → IsAaSender sender → Fits sender (fragment_of sender i is_last) →

@@ -47,8 +47,8 @@ abbrev pub sender_phase : AaSenderData → SenderPhase
 sender_phase sender = phase_in sender.state
 
 -- where a sender can stand: at one of its tiles, asking for an answer at another tile than the last
--- one, with fewer than
--- MAX_ACK_REQUESTS requests that no answer followed, or waiting after one up to so many
+-- one, with fewer than MAX_ACK_REQUESTS requests that no answer followed, or waiting after one up
+-- to so many
 abbrev pub StandsIn : ℕ → AaSenderState → Type 0
 StandsIn last (Sending i ack_req attempts) =
     (i ≤ last) × (attempts < max_ack_requests) × (ack_req ≡ true → i < last)

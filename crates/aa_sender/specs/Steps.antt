@@ -76,8 +76,7 @@ unfoldable pub sent : AaSenderData → AaSenderData
 sent sender = record sender { state = sent_in sender.state }
 
 -- What comes from the other end, from the timer and from above: where the sender stands then, and
--- what it meant. `last` is the
--- index of the last tile.
+-- what it meant. `last` is the index of the last tile.
 
 abbrev pub stepped : AaSenderData → AaSenderState × Heard → AaSenderData × Heard
 stepped sender step = (record sender { state = step.0 }, step.1)
@@ -127,8 +126,7 @@ unfoldable pub heard : Message → AaSenderData → AaSenderData × Heard
 heard message sender = stepped sender (heard_in (last_index sender) message sender.state)
 
 -- after as many requests as MAX_ACK_REQUESTS the session fails; else the All-1 is due again at the
--- last tile, and an ACK REQ at
--- another one
+-- last tile, and an ACK REQ at another one
 unfoldable pub retried_waiting : ℕ → ℕ → ℕ → Bool → AaSenderState × Heard
 retried_waiting last i attempts true = (Closing, Spent)
 retried_waiting last i attempts false = (Sending i (not (i == last)) attempts, Counted)

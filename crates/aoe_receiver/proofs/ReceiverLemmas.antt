@@ -40,9 +40,9 @@ store-places buffer sizes marks last s =
     (rw length-places all, places-are sizes buffer s.small (omega (arith, bytes, all)))
 
 -- the All-1's tile in a store is at most ten whole bytes
-pub store-last : (buffer sizes marks : List ℕ) (last : ℕ) → IsStore buffer sizes marks last
+pub store-last-tile : (buffer sizes marks : List ℕ) (last : ℕ) → IsStore buffer sizes marks last
     → IsLastTile (octets (take last (drop 2520 buffer)))
-store-last buffer sizes marks last s =
+store-last-tile buffer sizes marks last s =
     let bits = length-octets (take last (drop 2520 buffer)) in
     let bytes = length-take last (drop 2520 buffer) in
     (omega (arith, bits, bytes, s.last_small), omega (arith, bits))

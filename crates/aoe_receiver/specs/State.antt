@@ -15,8 +15,8 @@ pub record LastData : Type 0 where
   pub tile : List Bool
 
 -- a place for each tile of the four windows (RFC 9011, section 5.6.2), by its index: the tile,
--- where it is held. While nothing
--- is kept, a Receiver-Abort may be due; else an answer may be due. The latest All-1 is kept.
+-- where it is held. While nothing is kept, a Receiver-Abort may be due; else an answer may be due.
+-- The latest All-1 is kept.
 pub data AoeReceiverData : Type 0 where
   Empty : (abort : Bool) → AoeReceiverData
   Gathering : (tiles : List (Option (List Bool))) → (kept : Option LastData) → (answer : Bool)

@@ -1,6 +1,5 @@
 -- RFC 8724, section 8.4.3.2: the steps of a receiver of ACK-on-Error. Each message that it takes,
--- each answer that it gives and
--- each timer that is due is a case for each state.
+-- each answer that it gives and each timer that is due is a case for each state.
 use Rattle.std.specs.Prelude.{ℕ, ◌+◌, ◌*◌, ◌==◌, Bool, true, false, ◌&&◌, if◌then◌else◌, List, []}
 use Rattle.std.specs.Prelude.{◌∷◌, ◌++◌, length, take, drop, Option, Some, None}
 use Rattle.std.specs.Option.{option_map}
@@ -20,8 +19,7 @@ use Rattle.aoe_receiver.specs.State.{LastData, AoeReceiverData, Empty, Gathering
 use Rattle.aoe_receiver.specs.State.{no_tiles, payload_tiles}
 
 -- RFC 8724, section 8.4.3.2: the tiles that are held of the windows up to that of the All-1, in the
--- order of their indices, and
--- then the All-1's tile
+-- order of their indices, and then the All-1's tile
 unfoldable pub assembly : List (Option (List Bool)) → LastData → List Bool
 assembly tiles last = joined_tiles (take (63 * (last.w + 1)) tiles) ++ last.tile
 
@@ -150,8 +148,7 @@ lapsed (Gathering tiles kept answer) = Gathering tiles kept answer
 lapsed (Finished tiles last answer) = Empty false
 
 -- RFC 8724, section 8.4.3.2: the window that an answer names: the lowest below that of the All-1
--- that isn't full, else that of
--- the All-1; without an All-1 the last of the four stands for it
+-- that isn't full, else that of the All-1; without an All-1 the last of the four stands for it
 unfoldable pub named_window : Option LastData → List Bool → ℕ
 named_window None bits = open_window 63 3 bits
 named_window (Some last) bits = open_window 63 last.w bits

@@ -1,5 +1,8 @@
-//! The receiver of ACK-on-Error (RFC 8724 section 8.4.3.2, RFC 9011 section 5.6.2): it keeps the
-//! tiles that came in one buffer, makes the check when an All-1 comes, and answers.
+//! The receiver of the ACK-on-Error mode of SCHC fragmentation (RFC 8724 section 8.4.3.2, RFC 9011
+//! section 5.6.2).
+//!
+//! An [`AoeReceiver`] keeps the tiles that came in one buffer, makes the check when an All-1 comes,
+//! and answers.
 #![tactic(auto)]
 
 pub mod laws;

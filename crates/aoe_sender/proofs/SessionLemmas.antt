@@ -1,6 +1,6 @@
 -- The session of a sender stays the same, its padding is that of all modes, and its All-1 carries
 -- its check.
-use Rattle.std.specs.Prelude.{ℕ, ◌≡◌, ◌↔◌, ◌⊎◌, ◌+◌, ◌-◌, ◌*◌, ◌/◌, ◌%◌, ◌<◌, ◌≤◌, ◌==◌, zero, suc}
+use Rattle.std.specs.Prelude.{ℕ, ◌≡◌, ◌↔◌, ◌+◌, ◌-◌, ◌*◌, ◌/◌, ◌%◌, ◌<◌, ◌≤◌, ◌==◌, zero, suc}
 use Rattle.std.specs.Prelude.{nat_lt, Bool, true, false, List, [], ◌∷◌, ◌++◌, length, take, drop}
 use Rattle.std.specs.Prelude.{get_or, replicate, Option, Some, None, option_map}
 use Rattle.std.proofs.Common.{arith, ap, inl, inr, refl, sym, subst, ◌∙◌}
@@ -13,12 +13,12 @@ use Rattle.schc_ids.specs.declared.fragments.Side.TheVariants as side
 use Rattle.schc_ids.specs.declared.notes.Heard.{Heard}
 use Rattle.schc_ids.specs.declared.notes.Heard.TheVariants.{Counted, Delivered, NeverPasses}
 use Rattle.schc_ids.specs.declared.notes.Heard.TheVariants.{PeerAborted, Spent, Aborted}
-use Rattle.schc_ids.specs.declared.phases.SenderPhase.{SenderPhase}
-use Rattle.schc_ids.specs.declared.phases.SenderPhase.TheVariants as phase
 use Rattle.frag_wire.specs.Layouts.{written}
 use Rattle.frag_wire.specs.Spells.{Spells}
 use Rattle.frag_wire.specs.declared.message.Message.{Message}
 use Rattle.frag_wire.specs.declared.message.Message.TheVariants as form
+use Rattle.frag_wire.proofs.DueLemmas.{IsStill, sending-moves, closing-moves, check_in}
+use Rattle.frag_wire.proofs.DueLemmas.{some-bytes, some-check, none-check}
 use Rattle.frag_wire.proofs.LawsLemmas.{spelled-once}
 use Rattle.rcs.specs.Division.{rcs_of}
 use Rattle.tiles_bitmap.specs.Laws.{joined}
@@ -129,17 +129,6 @@ keeps-session s =
 
 -- Where nothing is due.
 
-abbrev IsStill : SenderPhase → Type 0
-IsStill at = (at ≡ phase.Waiting) ⊎ (at ≡ phase.Quiet)
-
-sending-moves : IsStill phase.Sending → ⊥
-sending-moves (inl e) = cc
-sending-moves (inr e) = cc
-
-closing-moves : IsStill phase.Closing → ⊥
-closing-moves (inl e) = cc
-closing-moves (inr e) = cc
-
 none-in : (s : AoeSenderData) (state : AoeSenderState)
     → (option_map (λ due. written s.params due.0 due.1) (due_in s state) ≡ None) ↔ IsStill
     (phase_in state)
@@ -207,25 +196,8 @@ packet-arrives s i = tiles-packet s i ∙ packet-padding s i
 
 -- The check.
 
-abbrev check_in : Message → Option ℕ
-check_in (form.All1 w rcs from) = Some rcs
-check_in (form.Regular w fcn from) = None
-check_in (form.Ack w c bitmap) = None
-check_in (form.AckReq w) = None
-check_in form.SenderAbort = None
-check_in form.ReceiverAbort = None
-
 some-due : (first second : Message × List Bool) → Some first ≡ Some second → first ≡ second
 some-due first second e = cc
-
-some-bytes : (first second : List ℕ) → Some first ≡ Some second → first ≡ second
-some-bytes first second e = cc
-
-some-check : (first second : ℕ) → Some first ≡ Some second → first ≡ second
-some-check first second e = cc
-
-none-check : (rcs : ℕ) → ◌≡◌ {A = Option ℕ} (Some rcs) None → ⊥
-none-check rcs e = cc
 
 check-of : (made due : Message × List Bool) (rcs : ℕ) → Some made ≡ Some due
     → Some rcs ≡ check_in due.0 → Some rcs ≡ check_in made.0

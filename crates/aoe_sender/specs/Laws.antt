@@ -92,8 +92,8 @@ SendsPacket =
     payloads count (begun params mtu last bits) ≡ padded_packet (begun params mtu last bits)
 
 -- the padded packet is that of all modes, whether the last tile goes in the All-1 or in a Regular:
--- 40 bits stand before the
--- All-1's tile, and each tile but the last has 80, so that the padding is the same
+-- 40 bits stand before the All-1's tile, and each tile but the last has 80, so that the padding is
+-- the same
 abbrev pub OnePadding : Type 0
 OnePadding = (s : AoeSenderData) → IsAoeSender s
     → padded_packet s ≡ padding.padded_packet s.params s.mtu s.bits

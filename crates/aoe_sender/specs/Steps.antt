@@ -39,8 +39,7 @@ begun params mtu last bits =
     record s { state = Sending (numbers_from 0 (regular_count s)) 0 }
 
 -- how many of the numbers that follow a first one go in the same Regular: as far as they follow
--- without a gap in one window,
--- at most as many as a frame holds; and the numbers that are left
+-- without a gap in one window, at most as many as a frame holds; and the numbers that are left
 unfoldable pub run_after : AoeSenderData → ℕ → List ℕ → ℕ × List ℕ
 run_after s number numbers = run window_size (most_tiles s - 1) number numbers
 
@@ -110,16 +109,14 @@ all1_came InAll1 bits = get_or bits (window_size - 1) true
 all1_came InRegular bits = true
 
 -- an answer about the last window, with the numbers that are missing in it: where none is, and the
--- tile in the All-1 came, the
--- check never passes
+-- tile in the All-1 came, the check never passes
 unfoldable pub asked_last : AoeSenderData → List ℕ → Bool → AoeSenderData × Heard
 asked_last s [] true = moves s Closing NeverPasses
 asked_last s [] false = moves s (Sending [] 0) Counted
 asked_last s (number ∷ numbers) came = moves s (Sending (number ∷ numbers) 0) Counted
 
 -- an answer that the check didn't pass, about a window that is the last, or is below the last: its
--- missing tiles are to be
--- sent, and then the All-1; one about a window above the last doesn't count
+-- missing tiles are to be sent, and then the All-1; one about a window above the last doesn't count
 unfoldable pub asked : AoeSenderData → ℕ → List Bool → Bool → Bool → AoeSenderData × Heard
 asked s window bits true below = asked_last s (missing_of s window bits) (all1_came s.last bits)
 asked s window bits false true = moves s (Sending (missing_of s window bits) 0) Counted
@@ -157,8 +154,7 @@ unfoldable pub heard : Message → AoeSenderData → AoeSenderData × Heard
 heard message s = heard_in message s s.state
 
 -- the retransmission timer is due: after the last of the attempts a Sender-Abort is due, else the
--- All-1 again (RFC 8724,
--- section 8.4.3.1)
+-- All-1 again (RFC 8724, section 8.4.3.1)
 unfoldable pub repeated : AoeSenderData → ℕ → Bool → AoeSenderData × Heard
 repeated s attempts true = moves s (Sending [] attempts) Counted
 repeated s attempts false = moves s Closing Spent
@@ -202,8 +198,7 @@ IsAscending least [] = Unit {0}
 IsAscending least (number ∷ numbers) = (least ≤ number) × IsAscending (suc number) numbers
 
 -- the numbers to send ascend and are those of tiles that go in Regulars, so many; while it is
--- waiting it has made an attempt,
--- and never more than may be made
+-- waiting it has made an attempt, and never more than may be made
 abbrev pub IsStateOf : ℕ → AoeSenderState → Type 0
 IsStateOf count (Sending numbers attempts) =
     IsAscending 0 numbers × AllByRecursion (λ number. number < count) numbers

@@ -13,8 +13,7 @@ abbrev pub window_size : ℕ
 window_size = 63
 
 -- the SCHC packet, and the zero bits that pad the fragment of its last tile: in this mode the
--- header and all other tiles are
--- whole bytes
+-- header and all other tiles are whole bytes
 unfoldable pub padded_packet : AoeSenderData → List Bool
 padded_packet s = padded s.bits
 

@@ -3,9 +3,11 @@ pub mod AckOnErrorLemmas
 pub mod AnswersLemmas
 pub mod BitmapLemmas
 pub mod CanSpellLemmas
+pub mod DueLemmas
 pub mod FieldsLemmas
 pub mod FormsLemmas
 pub mod NoAckLemmas
 pub mod ReadingLemmas
+pub mod RoomLemmas
 pub mod WrittenLemmas
 pub mod LawsLemmas

@@ -10,8 +10,7 @@ use Rattle.frag_wire.specs.Fields.{number_in}
 use Rattle.frag_wire.specs.Forms.{IsRegular, IsAll1, IsAckReq, IsSenderAbort, BeginsWith}
 
 -- the bytes are the message with the payload: a Regular has two bytes or more, an ACK REQ and a
--- Sender-Abort have one, an
--- All-1 five or more
+-- Sender-Abort have one, an All-1 five or more
 abbrev pub SpellsAckAlways : Message → List Bool → List ℕ → Type 0
 SpellsAckAlways (form.Regular w fcn from) payload bytes = IsRegular 1 1 w fcn from payload bytes
     × (2 ≤ length bytes)
@@ -24,8 +23,7 @@ SpellsAckAlways form.SenderAbort payload bytes = IsSenderAbort 1 1 payload bytes
 SpellsAckAlways form.ReceiverAbort payload bytes = ⊥
 
 -- the bytes are no message, for this cause: an FCN of 1 with two to four bytes is too short, and
--- with one byte and a W of 0
--- it has no form
+-- with one byte and a W of 0 it has no form
 abbrev pub IsAckAlwaysFault : WireFault → List ℕ → Type 0
 IsAckAlwaysFault Empty bytes = length bytes ≡ 0
 IsAckAlwaysFault TooShort bytes = ((w : ℕ) × BeginsWith 1 1 w 1 bytes) × (2 ≤ length bytes)

@@ -1,6 +1,5 @@
 -- RFC 8724, section 8.4.3, and RFC 9011, section 5.6.2: what the sender of the ACK-on-Error mode
--- sends, with a W of two bits,
--- an FCN of six bits, windows of 63 tiles and tiles of ten bytes.
+-- sends, with a W of two bits, an FCN of six bits, windows of 63 tiles and tiles of ten bytes.
 use Rattle.std.specs.Prelude.{ℕ, ◌≡◌, ◌+◌, ◌-◌, ◌*◌, ◌/◌, ◌^◌, ◌==◌, ◌<◌, ◌≤◌, ◌≢◌, ◌⊎◌, Bool}
 use Rattle.std.specs.Prelude.{if◌then◌else◌, List, [], length, nat_le, Result, Ok, Err}
 use Rattle.schc_ids.specs.declared.faults.WireFault.{WireFault}
@@ -20,9 +19,8 @@ abbrev pub tiles_to : ℕ → ℕ → ℕ → ℕ
 tiles_to w fcn count = 63 * w + (62 - fcn) + tiles_in count
 
 -- the bytes are the message with the payload: a Regular has two bytes or more, and its tiles don't
--- pass the last one of the
--- last window; an ACK REQ and a Sender-Abort have one byte, an All-1 has 5 to 15, which are at most
--- one tile
+-- pass the last one of the last window; an ACK REQ and a Sender-Abort have one byte, an All-1 has 5
+-- to 15, which are at most one tile
 abbrev pub SpellsAckOnError : Message → List Bool → List ℕ → Type 0
 SpellsAckOnError (form.Regular w fcn from) payload bytes =
     IsRegular 2 6 w fcn from payload bytes × (2 ≤ length bytes)
@@ -36,9 +34,8 @@ SpellsAckOnError form.SenderAbort payload bytes = IsSenderAbort 2 6 payload byte
 SpellsAckOnError form.ReceiverAbort payload bytes = ⊥
 
 -- the bytes are no message, for this cause: an FCN of 1 to 62 with one byte is too short, and so is
--- one of 63 with one to
--- four that isn't a Sender-Abort; tiles that pass the last one have no form, and an FCN of 63 with
--- more than 15 bytes
+-- one of 63 with one to four that isn't a Sender-Abort; tiles that pass the last one have no form,
+-- and an FCN of 63 with more than 15 bytes
 abbrev pub IsAckOnErrorFault : WireFault → List ℕ → Type 0
 IsAckOnErrorFault Empty bytes = length bytes ≡ 0
 IsAckOnErrorFault TooShort bytes =

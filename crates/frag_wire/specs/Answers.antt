@@ -24,8 +24,7 @@ pub record IsAckOfAll (w_bits : ℕ) (w : ℕ) (bitmap : ℕ) (payload : List Bo
   pub bits : octets bytes ≡ answer_head w_bits w 1 ++ padding
 
 -- RFC 8724, sections 8.3.2 and 8.3.2.1: C is 0, and then comes the bitmap of `size` bits, of which
--- the last ones may be left
--- out if they are 1; what comes after it isn't looked at
+-- the last ones may be left out if they are 1; what comes after it isn't looked at
 pub record IsAckOfSome (w_bits : ℕ) (size : ℕ) (w : ℕ) (bitmap : ℕ) (payload : List Bool)
     (bytes : List ℕ) : Type 0 where
   pub window : w < 2 ^ w_bits
@@ -61,8 +60,7 @@ SpellsAnswer w_bits size most form.SenderAbort payload bytes = ⊥
 SpellsAnswer w_bits size most form.ReceiverAbort payload bytes = IsReceiverAbort payload bytes
 
 -- the bytes are no answer, for this cause: a C of 1 with more than one byte that isn't a
--- Receiver-Abort, and a C of 0 with too
--- many bytes, have no form
+-- Receiver-Abort, and a C of 0 with too many bytes, have no form
 abbrev pub IsAnswerFault : ℕ → ℕ → WireFault → List ℕ → Type 0
 IsAnswerFault w_bits most Empty bytes = length bytes ≡ 0
 IsAnswerFault w_bits most TooShort bytes = ⊥
@@ -98,8 +96,8 @@ after_last_zero [] = 0
 after_last_zero (bit ∷ bits) = after_bit bit (after_last_zero bits)
 
 -- RFC 8724, section 8.3.2.1: how many bits of an answer with `header` bits before its bitmap are
--- sent: up to the last 0 bit, and
--- from there on to the next boundary of a byte or to the bitmap's end
+-- sent: up to the last 0 bit, and from there on to the next boundary of a byte or to the bitmap's
+-- end
 unfoldable pub kept_length : ℕ → List Bool → ℕ
 kept_length header bitmap =
     min (8 * ((header + after_last_zero bitmap + 7) / 8)) (header + length bitmap)

@@ -1,6 +1,5 @@
 -- RFC 8724, section 8.3: the forms of the messages between a sender and a receiver of fragments.
--- The RuleID stands in the
--- port and there is no DTag, so that a message begins with W.
+-- The RuleID stands in the port and there is no DTag, so that a message begins with W.
 use Rattle.std.specs.Prelude.{ℕ, ◌≡◌, ◌+◌, ◌-◌, ◌^◌, ◌<◌, Bool, List, [], ◌++◌}
 use Rattle.schc_bits.specs.Bits.{number_bits, octets}
 

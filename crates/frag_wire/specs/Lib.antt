@@ -3,6 +3,7 @@ pub mod AckOnError
 pub mod Answers
 pub mod Fields
 pub mod Forms
+pub mod Fragments
 pub mod Layouts
 pub mod Laws
 pub mod NoAck

@@ -1,5 +1,7 @@
-//! The messages between a sender and a receiver of fragments (RFC 8724 section 8.3): read from the
-//! bytes of a frame, and written.
+//! The messages between a sender and a receiver of fragments (RFC 8724 section 8.3).
+//!
+//! A [`Message`] is what a frame says; [`read`] has it from the bytes, and [`write`] gives the
+//! bytes of one with its payload.
 #![tactic(auto)]
 
 mod ack_always;

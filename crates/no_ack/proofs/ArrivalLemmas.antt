@@ -1,40 +1,32 @@
 -- What is due can be written, and what arrives of it.
-use Rattle.std.specs.Prelude.{ℕ, ◌≡◌, ◌+◌, ◌-◌, ◌*◌, ◌%◌, ◌^◌, ◌<◌, ◌≤◌, ◌==◌, zero, suc, Bool}
-use Rattle.std.specs.Prelude.{true, false, List, [], ◌∷◌, ◌++◌, length, take, drop, get_or}
-use Rattle.std.specs.Prelude.{replicate, Option, Some, None, option_map, IfSome}
+use Rattle.std.specs.Prelude.{ℕ, ◌≡◌, ◌+◌, ◌*◌, ◌^◌, ◌<◌, ◌≤◌, ◌==◌, Bool, true, false, List}
+use Rattle.std.specs.Prelude.{[], length, Some, option_map, IfSome}
 use Rattle.std.proofs.Common.{arith, ap, refl, sym, subst, ◌∙◌}
 use Rattle.std.proofs.lemmas.Bool.{eqb-true, eqb-false}
-use Rattle.std.proofs.lemmas.List.{append_assoc, append-nil, drop_at, length-append}
-use Rattle.schc_bits.specs.Bits.{number_bits, octets, padded, bytes_of}
-use Rattle.schc_bits.proofs.NumberBits.{length-number_bits}
-use Rattle.schc_bits.proofs.Octets.{AreBytes-bytes_of, octets-bytes_of-padded, padded-is}
-use Rattle.schc_bits.proofs.Octets.{padded-whole}
+use Rattle.schc_bits.specs.Bits.{padded, bytes_of}
+use Rattle.schc_bits.proofs.Octets.{AreBytes-bytes_of}
 use Rattle.schc_ids.specs.Fragments.{params_of, IsFragParams}
 use Rattle.schc_ids.specs.declared.fragments.FragParams.{FragParams}
 use Rattle.schc_ids.specs.declared.fragments.Side.TheVariants as side
-use Rattle.frag_wire.specs.Forms.{all_ones, fragment_head}
-use Rattle.frag_wire.specs.Layouts.{placed, written}
+use Rattle.frag_wire.specs.Layouts.{head}
 use Rattle.frag_wire.specs.Spells.{Spells, CanSpell}
 use Rattle.frag_wire.specs.declared.message.Message.{Message}
 use Rattle.frag_wire.specs.declared.message.Message.TheVariants as form
+use Rattle.frag_wire.proofs.DueLemmas.{written-check, some-bytes, some-check}
 use Rattle.frag_wire.proofs.FormsLemmas.{length-fragment_head}
-use Rattle.frag_wire.proofs.LawsLemmas.{spelled-once}
-use Rattle.frag_wire.proofs.WrittenLemmas.{IsWritten-written}
+use Rattle.frag_wire.proofs.RoomLemmas.{length-all1-head}
 use Rattle.rcs.specs.Division.{rcs_of}
 use Rattle.rcs.proofs.Steps.{check_of-bytes}
-use Rattle.tiles_bitmap.specs.Laws.{joined}
-use Rattle.tiles_bitmap.specs.Padding.{fill, all1_head, last_of, padded_packet}
-use Rattle.tiles_bitmap.specs.Tiles.{tile_sizes}
-use Rattle.tiles_bitmap.proofs.TilesLemmas.{tiles-join}
-use Rattle.tiles_bitmap.proofs.PieceLemmas.{length-tiles, some-tile}
+use Rattle.tiles_bitmap.specs.Padding.{all1_head, padded_packet}
+use Rattle.tiles_bitmap.proofs.PacketLemmas.{whole-arrives, packet-arrives}
 use Rattle.no_ack.specs.Laws.{DueFits, All1Checks, TileArrives, LastArrives}
-use Rattle.no_ack.specs.SenderState.{NoAckSenderData, IsNoAckSender, StandsIn, packet_tiles}
-use Rattle.no_ack.specs.SenderState.{tile_at, last_index}
+use Rattle.no_ack.specs.SenderState.{NoAckSenderData, IsNoAckSender, StandsIn, tile_at, last_index}
 use Rattle.no_ack.specs.SenderSteps.{fragment_of, bytes_due, due_in, due_message}
 use Rattle.no_ack.specs.declared.states.NoAckSenderState.{NoAckSenderState}
 use Rattle.no_ack.specs.declared.states.NoAckSenderState.TheVariants.{Sending, Closing, Quiet}
-use Rattle.no_ack.proofs.SenderLemmas.{regular-is, regular_whole, last_is, row-bits, can_regular}
-use Rattle.no_ack.proofs.SenderLemmas.{can_all1, can_abort, room_regular, room_all1, room_abort}
+use Rattle.no_ack.proofs.SenderLemmas.{regular-is, sender-regular-whole, last_is, header-is}
+use Rattle.no_ack.proofs.SenderLemmas.{can_regular, can_all1, can_abort}
+use Rattle.no_ack.proofs.SenderLemmas.{room_regular, room_all1, room_abort}
 
 rcs_of-below : (bits : List Bool) → rcs_of bits < 2 ^ 32
 unfolding rcs_of
@@ -80,36 +72,8 @@ pub due_fits : DueFits
 unfolding due_message
 due_fits sender is = due_in-fits sender sender.state is is.stands
 
--- the check that a message carries
-abbrev check_in : Message → Option ℕ
-check_in (form.All1 w rcs from) = Some rcs
-check_in (form.Regular w fcn from) = None
-check_in (form.Ack w c bitmap) = None
-check_in (form.AckReq w) = None
-check_in form.SenderAbort = None
-check_in form.ReceiverAbort = None
-
--- bytes that were written for a message and are an All-1 carry the message's check
-written-check : (params : FragParams) (message : Message) (payload other : List Bool)
-    (bytes : List ℕ) (w rcs from : ℕ) → IsFragParams params
-    → CanSpell params side.Fragments message payload →
-    written params message payload ≡ bytes
-    → Spells params side.Fragments (form.All1 w rcs from) other bytes
-    → Some rcs ≡ check_in (placed params message)
-written-check params message payload other bytes w rcs from row can e spells =
-    let is = IsWritten-written params side.Fragments message payload bytes row can (sym e) in
-    ap check_in
-    (spelled-once params side.Fragments bytes (form.All1 w rcs from) (placed params message)
-    other _ spells is.spells).0
-
 row-of : (sender : NoAckSenderData) → IsNoAckSender sender → IsFragParams sender.params
 row-of sender is = is.row ∙ ap (λ (p : FragParams). params_of p.mode) (sym is.row)
-
-some-bytes : (first second : List ℕ) → Some first ≡ Some second → first ≡ second
-some-bytes first second e = cc
-
-some-check : (first second : ℕ) → Some first ≡ Some second → first ≡ second
-some-check first second e = cc
 
 fragment-checks : (sender : NoAckSenderData) (i : ℕ) (is_last : Bool) (bytes : List ℕ)
     (w rcs from : ℕ) (payload : List Bool) → IsNoAckSender sender
@@ -156,83 +120,16 @@ all1_checks sender bytes w rcs from payload is e spells =
 pub tile_arrives : TileArrives
 unfolding fragment_of
 tile_arrives sender i is h =
-    let whole_tile = regular_whole sender i is h in
-    let bits = row-bits sender.params is.row in
-    let front = fragment_head sender.params.w_bits sender.params.fcn_bits 0 0 in
-    let head : length front ≡ 1 =
-    omega (
-      arith,
-      length-fragment_head sender.params.w_bits sender.params.fcn_bits 0 0,
-      bits.0,
-      bits.1,
-    )
-    in
-    let size : length (front ++ tile_at sender i) ≡ length (tile_at sender i) + 1 =
-    omega (arith, length-append front (tile_at sender i), head) in
-    let whole : length (front ++ tile_at sender i) % 8 ≡ 0 = ap (λ n. n % 8) size ∙ whole_tile in
-    ap (λ (list : List Bool). drop 1 list)
-    (octets-bytes_of-padded (front ++ tile_at sender i)
-    ∙ padded-whole (front ++ tile_at sender i) whole)
-    ∙ drop_at front (tile_at sender i) 1 head
-
-joined-split : (parts : List (List Bool)) (n : ℕ) → suc n ≡ length parts
-    → joined (take n parts) ++ get_or parts n [] ≡ joined parts
-joined-split [] n e = absurd (omega (arith, e))
-joined-split (part ∷ []) zero e = sym (append-nil part)
-joined-split (part ∷ []) (suc n) e = absurd (omega (arith, e))
-joined-split (part ∷ next ∷ parts) zero e = absurd (omega (arith, e))
-joined-split (part ∷ next ∷ parts) (suc n) e =
-    append_assoc part (joined (take n (next ∷ parts))) (get_or (next ∷ parts) n [])
-    ∙ ap (λ (list : List Bool). part ++ list) (joined-split (next ∷ parts) n (omega (arith, e)))
-
--- behind a front of 33 bits stand the tile and the zero bits that pad it
-behind-front : (front tile : List Bool) → length front ≡ 33
-    → drop 33 (octets (bytes_of (padded (front ++ tile)))) ≡ tile ++ fill (33 + length tile)
-unfolding fill
-behind-front front tile e =
-    let size : length (front ++ tile) ≡ 33 + length tile =
-    omega (arith, length-append front tile, e) in
-    ap (λ (list : List Bool). drop 33 list)
-    (octets-bytes_of-padded (front ++ tile)
-    ∙ padded-is (front ++ tile)
-    ∙ append_assoc front tile (replicate ((8 - length (front ++ tile) % 8) % 8) false))
-    ∙ drop_at front (tile ++ replicate ((8 - length (front ++ tile) % 8) % 8) false) 33 e
-    ∙ ap (λ (n : ℕ). tile ++ replicate ((8 - n % 8) % 8) false) size
+    whole-arrives (head sender.params (form.Regular 0 0 1)) (tile_at sender i) 1
+    (length-fragment_head sender.params.w_bits sender.params.fcn_bits 0 0
+    ∙ header-is sender.params is.row) (sender-regular-whole sender i is h)
 
 -- the tiles of all Regulars and then the payload of the All-1, as it is read, are the padded packet
 pub last_arrives : LastArrives
-unfolding fragment_of last_index padded_packet
+unfolding fragment_of last_index
 last_arrives sender is =
-    let parts = packet_tiles sender in
-    let bits = row-bits sender.params is.row in
     let rcs = rcs_of (padded_packet sender.params sender.mtu sender.bits) in
-    let front =
-    fragment_head sender.params.w_bits sender.params.fcn_bits 0
-    (all_ones sender.params.fcn_bits) ++ number_bits 32 rcs in
-    let head : length front ≡ 33 =
-    omega (
-      arith,
-      length-append
-          (fragment_head sender.params.w_bits sender.params.fcn_bits 0
-          (all_ones sender.params.fcn_bits)) (number_bits 32 rcs),
-      length-fragment_head sender.params.w_bits sender.params.fcn_bits 0
-          (all_ones sender.params.fcn_bits),
-      length-number_bits 32 rcs,
-      bits.0,
-      bits.1,
-    )
-    in
-    let some = some-tile sender.params sender.mtu (length sender.bits) is.in_range in
-    let count : suc (length parts - 1) ≡ length parts =
-    omega (arith, some, length-tiles sender.params sender.mtu sender.bits) in
-    let width : 33 + length (last_of parts) ≡ all1_head sender.params + length (last_of parts) =
-    omega (arith, bits.0, bits.1) in
-    ap (λ (list : List Bool). joined (take (length parts - 1) parts) ++ list)
-    (behind-front front (last_of parts) head)
-    ∙ sym (append_assoc (joined (take (length parts - 1) parts)) (last_of parts)
-    (fill (33 + length (last_of parts))))
-    ∙ ap (λ (list : List Bool). list ++ fill (33 + length (last_of parts)))
-    (joined-split parts (length parts - 1) count)
-    ∙ ap (λ (n : ℕ). joined parts ++ fill n) width
-    ∙ ap (λ (list : List Bool). list ++ fill (all1_head sender.params + length (last_of parts)))
-    (tiles-join sender.params sender.mtu sender.bits is.in_range)
+    let width = ap (λ (p : FragParams). all1_head p) is.row in
+    packet-arrives sender.params sender.mtu sender.bits
+    (head sender.params (form.All1 0 rcs 33)) 33 is.in_range width
+    (length-all1-head sender.params 0 rcs 33 ∙ width)

@@ -1,10 +1,9 @@
 -- Each step of a sender leads to a sender of the same session.
-use Rattle.std.specs.Prelude.{ℕ, ◌≡◌, ◌↔◌, ◌⊎◌, ◌≤◌, ◌==◌, suc, Bool, true, false, List, Option}
-use Rattle.std.specs.Prelude.{Some, None, if◌then◌else◌, option_map}
-use Rattle.std.proofs.Common.{arith, inl, inr, refl}
+use Rattle.std.specs.Prelude.{ℕ, ◌≡◌, ◌↔◌, ◌≤◌, ◌==◌, suc, Bool, true, false}
+use Rattle.std.specs.Prelude.{None, if◌then◌else◌, option_map}
+use Rattle.std.proofs.Common.{arith, inr, refl}
 use Rattle.std.proofs.lemmas.Bool.{eqb-false}
-use Rattle.schc_ids.specs.declared.phases.SenderPhase.{SenderPhase}
-use Rattle.schc_ids.specs.declared.phases.SenderPhase.TheVariants as phase
+use Rattle.frag_wire.proofs.DueLemmas.{IsStill, sending-moves, closing-moves}
 use Rattle.no_ack.specs.Laws.{BeginsOne, StaysOne, KeepsSession, NoneDue}
 use Rattle.no_ack.specs.SenderState.{NoAckSenderData, StandsIn, phase_in, last_index}
 use Rattle.no_ack.specs.SenderSteps.{bytes_due, due_in, due_message, sent_in, sent, aborted_in}
@@ -56,17 +55,6 @@ keeps_session sender = (
   record { params = refl; mtu = refl; bits = refl },
   record { params = refl; mtu = refl; bits = refl },
 )
-
-abbrev IsStill : SenderPhase → Type 0
-IsStill at = (at ≡ phase.Waiting) ⊎ (at ≡ phase.Quiet)
-
-sending-moves : IsStill phase.Sending → ⊥
-sending-moves (inl e) = cc
-sending-moves (inr e) = cc
-
-closing-moves : IsStill phase.Closing → ⊥
-closing-moves (inl e) = cc
-closing-moves (inr e) = cc
 
 none-in : (sender : NoAckSenderData) (state : NoAckSenderState)
     → (option_map (bytes_due sender.params) (due_in sender state) ≡ None) ↔ IsStill (phase_in state)

@@ -1,4 +1,7 @@
-//! The sender and the receiver of the No-ACK mode of SCHC fragmentation (RFC 8724 section 8.4.1).
+//! The No-ACK mode of SCHC fragmentation (RFC 8724 section 8.4.1), in which nothing is answered.
+//!
+//! A [`NoAckSender`] sends one SCHC packet, tile after tile, and says where it stands by a
+//! [`NoAckSenderState`]. A [`NoAckReceiver`] receives packets, one after the other.
 #![tactic(auto)]
 
 pub mod laws;

@@ -3,7 +3,8 @@
 ghost use Rattle.std.specs.Prelude.{ℕ, ◌≡◌, ◌*◌, ◌≤◌, length, IsSome, IfOk, IfSome, OnErr};
 ghost use Rattle.schc_ids.specs.Fragments.{params_of};
 ghost use Rattle.reassembly.specs.Joining.{reassembly_bits};
-ghost use Rattle.no_ack.specs.Fragments.{IsFragment, MayJoin, payload_of, bits_from};
+ghost use Rattle.frag_wire.specs.Fragments.{MayJoin, payload_of, bits_from};
+ghost use Rattle.no_ack.specs.Fragments.{IsFragment};
 ghost use Rattle.no_ack.specs.ReceiverState.{IsNoAckReceiver, empty_receiver, receiver_phase};
 ghost use Rattle.no_ack.specs.ReceiverSteps.{taken, tile_step, last_step, last_preview, given_up, previewed, idled, lapsed};
 

@@ -1,3 +1,4 @@
+pub mod PacketLemmas
 pub mod PieceLemmas
 pub mod PlacesLemmas
 pub mod RunLemmas

@@ -27,8 +27,7 @@ TilesJoin = (params : FragParams) (mtu : ℕ) (bits : List Bool) → IsMtu mtu
     → joined (tiles params mtu bits) ≡ bits
 
 -- each tile but the last fills whole bytes with its header, in a frame of at most `mtu` bytes; the
--- last one fits beside its
--- header and the RCS
+-- last one fits beside its header and the RCS
 abbrev pub FitFrames : ℕ → ℕ → List ℕ → Type 0
 FitFrames header mtu [] = ⊥
 FitFrames header mtu (last ∷ []) = header + 32 + last ≤ 8 * mtu
@@ -79,8 +78,7 @@ EndsAt number [] = Unit {0}
 EndsAt number (next ∷ numbers) = (next ≡ suc number → ⊥) ⊎ (next / 63 ≡ number / 63 → ⊥)
 
 -- RFC 8724, section 8.3.1.1: the longest front of the numbers that follow this one without a gap in
--- its window, at most so
--- many; and the others
+-- its window, at most so many; and the others
 pub record IsLongestRun (most : ℕ) (number : ℕ) (numbers : List ℕ) (taken : ℕ × List ℕ) : Type 0
   where
     pub front : numbers ≡ numbers_from (suc number) taken.0 ++ taken.1

@@ -12,9 +12,8 @@ HasNumber mode.AckAlways i = Unit {0}
 HasNumber mode.AckOnError i = i < 4 * 63
 
 -- the window and the FCN of the tile with the index `i`, from 0: in ACK-on-Error 63 tiles a window,
--- from FCN 62 down to 0
--- (RFC 9011, section 5.6.2); in ACK-Always one tile a window, whose number is one bit; in No-ACK
--- there are no windows
+-- from FCN 62 down to 0 (RFC 9011, section 5.6.2); in ACK-Always one tile a window, whose number is
+-- one bit; in No-ACK there are no windows
 unfoldable pub tile_number : FragMode → ℕ → TileNumber
 tile_number mode.NoAck i = record { w = 0; fcn = 0 }
 tile_number mode.AckAlways i = record { w = i % 2; fcn = 0 }

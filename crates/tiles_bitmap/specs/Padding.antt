@@ -1,6 +1,5 @@
 -- RFC 8724, section 8.2.3: the reassembly check sequence is made over the SCHC packet and the
--- padding of the fragment that
--- carries its last tile.
+-- padding of the fragment that carries its last tile.
 use Rattle.std.specs.Prelude.{ℕ, ◌+◌, ◌-◌, ◌%◌, Bool, false, List, [], ◌++◌, length, replicate}
 use Rattle.std.specs.Prelude.{get_or}
 use Rattle.schc_ids.specs.declared.fragments.FragParams.{FragParams}

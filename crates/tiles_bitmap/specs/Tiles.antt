@@ -11,8 +11,7 @@ abbrev pub header_of : FragMode → ℕ
 header_of m = (params_of m).w_bits + (params_of m).fcn_bits
 
 -- the most bits of a last tile, which goes in the All-1: in ACK-on-Error a tile is 10 bytes, else
--- what a frame holds beside
--- the header and the RCS of 32 bits
+-- what a frame holds beside the header and the RCS of 32 bits
 unfoldable pub most_in_last : FragMode → ℕ → ℕ
 most_in_last mode.NoAck mtu = 8 * mtu - (header_of mode.NoAck + 32)
 most_in_last mode.AckAlways mtu = 8 * mtu - (header_of mode.AckAlways + 32)
@@ -33,8 +32,8 @@ pub record IsLargest (header : ℕ) (mtu : ℕ) (left : ℕ) (size : ℕ) : Type
       → other_count ≤ count
 
 -- what a tile that isn't the last is, where `left` bits are left: in ACK-on-Error 80 bits (RFC
--- 9011, section 5.6.2), else
--- the largest that fills whole bytes with the header and leaves at least eight bits
+-- 9011, section 5.6.2), else the largest that fills whole bytes with the header and leaves at least
+-- eight bits
 abbrev pub IsTile : FragMode → ℕ → ℕ → ℕ → Type 0
 IsTile mode.NoAck mtu left size = IsLargest (header_of mode.NoAck) mtu left size
 IsTile mode.AckAlways mtu left size = IsLargest (header_of mode.AckAlways) mtu left size

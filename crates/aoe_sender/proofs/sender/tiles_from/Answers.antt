@@ -21,19 +21,8 @@ returns-clause-part c =
 
 pub returns-clause-short : goal.returns-clause-short
 returns-clause-short c =
-    let e : c.front.result ≡ take (80 * c.args.count) (drop (80 * c.args.first) c.args.bits.now) =
-    c.front.ensures
-    ∙ rw (
-      c.min-2.ensures,
-      c.len-2.ensures,
-      c.after-rest.ensures,
-      c.min.ensures,
-      c.len.ensures,
-      c.as_part.ensures,
-    ) (part-is c.args.bits.now (80 * c.args.first) (80 * c.args.count))
-    in
     let few : length
     (take (80 * c.args.count) (drop (80 * c.args.first) c.args.bits.now)) ≤ 80 * c.args.count =
     omega (arith, length-take (80 * c.args.count) (drop (80 * c.args.first) c.args.bits.now)) in
-    IfOk-weaker c.to_bits.result _ _ (λ list is. omega (arith, ap length (is ∙ e)))
-    c.to_bits.ensures
+    IfOk-weaker c.to_bits.result _ _ (λ part is. omega (arith, ap length is))
+    (returns-clause-part c)

@@ -6,8 +6,7 @@ use Rattle.aoe_receiver.specs.Steps.{all_held}
 use Rattle.aoe_receiver.proofs.store.TileStore.keep.Given as goal
 
 -- with the tiles that are left, what is held is what it is to be; those that came, if none was new,
--- and those that are left
--- were all held at first
+-- and those that are left were all held at first
 abbrev pub invariant-loop-rest : goal.invariant-loop-rest
 invariant-loop-rest l =
     (keep l.at (payload_tiles (octets l.rest)) l.self.tiles ≡ keep l.fn.place

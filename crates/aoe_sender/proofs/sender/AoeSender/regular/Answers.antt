@@ -2,10 +2,17 @@ use Rattle.std.proofs.Common.{◌+◌, ◌<◌, arith, ap, sym, subst, ◌∙◌
 use Rattle.std.proofs.lemmas.Result.{IfOk-weaker}
 use Rattle.frag_wire.specs.Layouts.{written}
 use Rattle.aoe_sender.specs.Tiles.{regular_count}
-use Rattle.aoe_sender.specs.Steps.{regular}
+use Rattle.aoe_sender.specs.Steps.{regular, IsAoeSender}
 use Rattle.aoe_sender.proofs.MessageLemmas.{within, has-number, regular-spelt, regular-written}
 use Rattle.aoe_sender.proofs.MessageLemmas.{regular-room}
 use Rattle.aoe_sender.proofs.sender.AoeSender.regular.Goals as goal
+use Rattle.aoe_sender.proofs.sender.AoeSender.regular.Goals.{After-tile_number-number}
+
+-- the tiles are among those of the four windows
+tiles-below : (c : After-tile_number-number) → c.args.first + c.args.more < 252
+tiles-below c =
+    (within c.args.self.now c.args.first c.args.more
+    (subst IsAoeSender c.self.view_is c.self.invariant) c.requires).number
 
 pub tile_number-number-requires : goal.tile_number-number-requires
 tile_number-number-requires c =
@@ -15,24 +22,15 @@ tile_number-number-requires c =
 
 pub overflow_add-more : goal.overflow_add-more
 overflow_add-more c =
-    let w = within _ c.args.first c.args.more c.self.invariant
-    (subst (λ s. c.args.first + c.args.more < regular_count s) (sym c.self.view_is) c.requires)
-    in
-    omega (arith, w.number)
+    omega (arith, tiles-below (goal.at.overflow_add-more c).After-tile_number-number)
 
 pub tiles_from-requires-clause-first : goal.tiles_from-requires-clause-first
 tiles_from-requires-clause-first c =
-    let w = within _ c.args.first c.args.more c.self.invariant
-    (subst (λ s. c.args.first + c.args.more < regular_count s) (sym c.self.view_is) c.requires)
-    in
-    omega (arith, w.number)
+    omega (arith, tiles-below (goal.at.tiles_from-requires-clause-first c).After-tile_number-number)
 
 pub tiles_from-requires-clause-count : goal.tiles_from-requires-clause-count
 tiles_from-requires-clause-count c =
-    let w = within _ c.args.first c.args.more c.self.invariant
-    (subst (λ s. c.args.first + c.args.more < regular_count s) (sym c.self.view_is) c.requires)
-    in
-    omega (arith, w.number)
+    omega (arith, tiles-below (goal.at.tiles_from-requires-clause-count c).After-tile_number-number)
 
 pub write-requires-clause-spelt : goal.write-requires-clause-spelt
 write-requires-clause-spelt c =
