@@ -27,7 +27,7 @@ use Rattle.aa_receiver.specs.Steps as receiver_step
 use Rattle.aa_receiver.specs.Steps.{open_window}
 use Rattle.aa_sender.specs.State.{AaSenderData, IsAaSender, packet_tiles, tile_at, last_index}
 use Rattle.aa_sender.specs.Steps as sender_step
-use Rattle.aa_sender.specs.Steps.{window_of, fragment_of, fragment_bytes, bytes_due}
+use Rattle.aa_sender.specs.Steps.{window_of, fragment_of, bytes_due}
 use Rattle.aa_sender.specs.declared.states.AaSenderState.TheVariants.{Sending, Waiting, Quiet}
 use Rattle.aa_sender.proofs.ArrivalLemmas.{tile_arrives, last_arrives}
 use Rattle.aa_sender.proofs.KeptLemmas.{begins_one}
@@ -42,12 +42,13 @@ use Rattle.sessions.specs.declared.receivers.Receiver.{Receiver}
 use Rattle.sessions.specs.declared.receivers.Receiver.TheVariants as receivers
 use Rattle.sessions.specs.declared.senders.Sender.{Sender}
 use Rattle.sessions.specs.declared.senders.Sender.TheVariants as senders
-use Rattle.lanes.specs.Lane.{LaneParams, padded_of}
+use Rattle.lanes.specs.Lane.{LaneParams}
 use Rattle.lanes.specs.Rounds.{Talk, Ends, IsLastRound, new_talk}
 use Rattle.lanes.specs.Step.{kind_sent, lane_session}
 use Rattle.lanes.proofs.PacketLemmas.{rcs-below, joined-next, packet-bound, padded-bound}
 use Rattle.lanes.proofs.PacketLemmas.{params-are}
-use Rattle.lanes.proofs.RoundLemmas.{CleanIn, Leads, read-written, IsGiven, answered-round}
+use Rattle.lanes.proofs.RoundLemmas.{CleanIn, ends-well, Leads, read-written, IsGiven}
+use Rattle.lanes.proofs.RoundLemmas.{answered-round}
 
 -- the sender at the tile i, before and after it was sent
 abbrev at_tile : AaSenderData → ℕ → AaSenderData
@@ -419,12 +420,6 @@ clean-ack_always params number bits left are e can =
     let is : IsAaSender s =
     begins_one params.frag params.ends.mtu params.ends.last bits row are.in_range.mtu can.least
     can.most in
-    record {
-      more = last_index s;
-      few = last-few s;
-      ends =
-          subst (λ (m : FragMode). Ends m params.ends.ticks (padded_of params bits) (last_index s)
-          (new_talk params number bits left)) (sym e)
-          (ends-from (last_index s) 0 s params.ends.ticks (new_talk params number bits left) is
-          (omega arith) (begun-at params number bits left e));
-    }
+    ends-well mode.AckAlways params number bits left (last_index s) e (last-few s)
+    (ends-from (last_index s) 0 s params.ends.ticks (new_talk params number bits left) is
+    (omega arith) (begun-at params number bits left e))

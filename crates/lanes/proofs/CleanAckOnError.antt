@@ -52,10 +52,11 @@ use Rattle.sessions.specs.declared.receivers.Receiver.{Receiver}
 use Rattle.sessions.specs.declared.receivers.Receiver.TheVariants as receivers
 use Rattle.sessions.specs.declared.senders.Sender.{Sender}
 use Rattle.sessions.specs.declared.senders.Sender.TheVariants as senders
-use Rattle.lanes.specs.Lane.{LaneParams, padded_of}
+use Rattle.lanes.specs.Lane.{LaneParams}
 use Rattle.lanes.specs.Rounds.{Talk, IsRound, Ends, IsLastRound, new_talk}
 use Rattle.lanes.specs.Step.{kind_sent, lane_session}
-use Rattle.lanes.proofs.RoundLemmas.{CleanIn, read-written, IsGiven, silent-round, answered-round}
+use Rattle.lanes.proofs.RoundLemmas.{CleanIn, ends-well, read-written, IsGiven, silent-round}
+use Rattle.lanes.proofs.RoundLemmas.{answered-round}
 use Rattle.lanes.proofs.TileLemmas.{regular-whole}
 
 -- Runs and places.
@@ -648,10 +649,6 @@ clean-ack_on_error params number bits left are e can =
     let all =
     ends-from (regular_count s) 0 (regular_count s) s params.ends.ticks
     (new_talk params number bits left) (omega arith) (begun-at params number bits left e is) in
-    record {
-      more = all.more;
-      few = let few = all.few in omega (arith, few, few-rounds params bits is e);
-      ends =
-          subst (λ (m : FragMode). Ends m params.ends.ticks (padded_of params bits) all.more
-          (new_talk params number bits left)) (sym e) all.ends;
-    }
+    let few = all.few in
+    ends-well mode.AckOnError params number bits left all.more e
+    (omega (arith, few, few-rounds params bits is e)) all.ends

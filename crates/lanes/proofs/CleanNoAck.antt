@@ -38,12 +38,12 @@ use Rattle.sessions.specs.declared.receivers.Receiver.{Receiver}
 use Rattle.sessions.specs.declared.receivers.Receiver.TheVariants as receivers
 use Rattle.sessions.specs.declared.senders.Sender.{Sender}
 use Rattle.sessions.specs.declared.senders.Sender.TheVariants as senders
-use Rattle.lanes.specs.Lane.{LaneParams, padded_of}
+use Rattle.lanes.specs.Lane.{LaneParams}
 use Rattle.lanes.specs.Rounds.{Talk, Ends, IsLastRound, new_talk}
 use Rattle.lanes.specs.Step.{kind_sent, lane_session}
 use Rattle.lanes.proofs.PacketLemmas.{rcs-below, joined-next, packet-bound, padded-bound}
 use Rattle.lanes.proofs.PacketLemmas.{params-are}
-use Rattle.lanes.proofs.RoundLemmas.{CleanIn, Leads, read-written, IsGiven, silent-round}
+use Rattle.lanes.proofs.RoundLemmas.{CleanIn, ends-well, Leads, read-written, IsGiven, silent-round}
 
 -- the sender at the tile i
 abbrev at_tile : NoAckSenderData → ℕ → NoAckSenderData
@@ -343,12 +343,6 @@ clean-no_ack params number bits left are e can =
     let is : IsNoAckSender s =
     begins_one params.frag params.ends.mtu params.ends.last bits row are.in_range.mtu can.least
     can.most in
-    record {
-      more = last_index s;
-      few = last-few s;
-      ends =
-          subst (λ (m : FragMode). Ends m params.ends.ticks (padded_of params bits) (last_index s)
-          (new_talk params number bits left)) (sym e)
-          (ends-from (last_index s) 0 s params.ends.ticks (new_talk params number bits left) is
-          (omega arith) (begun-at params number bits left e));
-    }
+    ends-well mode.NoAck params number bits left (last_index s) e (last-few s)
+    (ends-from (last_index s) 0 s params.ends.ticks (new_talk params number bits left) is
+    (omega arith) (begun-at params number bits left e))

@@ -49,6 +49,7 @@ use Rattle.lanes.proofs.LeadsLemmas.{IsSeen, Comes, taken-comes, taken-mode}
 use Rattle.lanes.proofs.ListLemmas.{all-weaken, all-append, all-among, among-more, among-after}
 use Rattle.lanes.proofs.PassedLemmas.{CameIs, KeptIs, passed-is, taken-kept, answered-kept}
 use Rattle.lanes.proofs.PassedLemmas.{idled-kept, lapsed-kept}
+use Rattle.lanes.proofs.StepLemmas.{AfterSend, send-keeps, begin-keeps, answer-keeps}
 use Rattle.lanes.proofs.TickedLemmas.{ticked-keeps}
 
 -- this session was joined
@@ -181,18 +182,10 @@ took-is time l m (Err fault) e k = k
 took-is time l m (Ok message) e k =
     taken-is time l m.label message (payload_in message (octets m.bytes)) e k
 
-sent-is : (time : ℕ) (l : Lane) (session : Session) (bytes : Option (List ℕ)) → ReceiverKeeps l
-    → ReceiverKeeps (lane_sent time l session bytes)
-unfolding lane_sent
-sent-is time l session None k = k
-sent-is time l session (Some bytes) k =
+-- what the sender does leaves the receiver as it was
+receiver-unmoved : (l : Lane) → ReceiverKeeps l → AfterSend ReceiverKeeps l
+receiver-unmoved l k sender out reports =
     record { mode_is = k.mode_is; phase_is = k.phase_is; kept_is = k.kept_is }
-
-sends-is : (time : ℕ) (l : Lane) (session : Option Session) → ReceiverKeeps l
-    → ReceiverKeeps (lane_sends time l session)
-unfolding lane_sends
-sends-is time l None k = k
-sends-is time l (Some session) k = sent-is time l session (sender_due session.sender) k
 
 -- an empty receiver keeps nothing
 kept-empty : (P : ℕ → Type 0) (r : Receiver) → receiver_phase r ≡ Empty → KeptIs P r
@@ -206,20 +199,19 @@ kept-empty P (AckOnError (aoe.Finished tiles last answer)) e = absurd cc
 begun-is : (time : ℕ) (l : Lane) (begun : Begun) (session : Session) (bytes : Option (List ℕ))
     → receiver_phase l.reception.receiver ≡ Empty → ReceiverKeeps l
     → ReceiverKeeps (lane_begun time l begun session bytes)
-unfolding lane_begun
-begun-is time l begun session None e k = k
-begun-is time l begun session (Some bytes) e k =
+begun-is time l begun session bytes e k =
+    begin-keeps ReceiverKeeps time l begun session bytes k (λ sender out reports.
     record {
       mode_is = k.mode_is;
       phase_is = subst (PhaseIs (l.begins ++ begun ∷ []) l.joins l.label) (sym e) tt;
       kept_is =
           kept-empty (IsLastLabel (l.begins ++ begun ∷ []) l.kept_label) l.reception.receiver e;
-    }
+    })
 
 told-is : (time : ℕ) (l : Lane) (step : Option Session × Option ReportKind) → ReceiverKeeps l
     → ReceiverKeeps (lane_told time l step)
 unfolding lane_told
-told-is time l step k = record { mode_is = k.mode_is; phase_is = k.phase_is; kept_is = k.kept_is }
+told-is time l step k = receiver-unmoved l k _ _ _
 
 -- a receiver that gives its answer stays in its phase
 pub answered-phase : (P : ReceiverPhase → Type 0) (r : Receiver) → P (receiver_phase r)
@@ -324,7 +316,7 @@ receiver-step time l (Begin place number bits) f k =
     let session : Session = lane_session l.params number bits in
     begun-is time l (record { time = time; place = place; number = number; bits = bits }) session
     (sender_due session.sender) f k
-receiver-step time l Send f k = sends-is time l l.sender k
+receiver-step time l Send f k = send-keeps ReceiverKeeps time l l.sender (receiver-unmoved l k)
 receiver-step time l Answer f k = answered-is l (receiver_due l.reception.receiver) k
 receiver-step time l (Fragment m) f k =
     took-is time l m (reading_in l.params.frag.mode side.Fragments m.bytes) f k
@@ -376,24 +368,6 @@ answer-back l (Some bytes) e r k =
       tt,
     )
 
-sent-back : (time : ℕ) (l : Lane) (session : Session) (bytes : Option (List ℕ)) → BackKeeps l
-    → BackKeeps (lane_sent time l session bytes)
-unfolding lane_sent
-sent-back time l session None k = k
-sent-back time l session (Some bytes) k = k
-
-sends-back : (time : ℕ) (l : Lane) (session : Option Session) → BackKeeps l
-    → BackKeeps (lane_sends time l session)
-unfolding lane_sends
-sends-back time l None k = k
-sends-back time l (Some session) k = sent-back time l session (sender_due session.sender) k
-
-begun-back : (time : ℕ) (l : Lane) (begun : Begun) (session : Session) (bytes : Option (List ℕ))
-    → BackKeeps l → BackKeeps (lane_begun time l begun session bytes)
-unfolding lane_begun
-begun-back time l begun session None k = k
-begun-back time l begun session (Some bytes) k = k
-
 took-back : (time : ℕ) (l : Lane) (m : Msg) (reading : Result Message WireFault) → BackKeeps l
     → BackKeeps (lane_took time l m reading)
 unfolding lane_took lane_taken
@@ -411,9 +385,10 @@ pub back-step : (time : ℕ) (l : Lane) (event : LaneEvent) → ReceiverKeeps l 
 unfolding lane_step lane_begins lane_told
 back-step time l (Begin place number bits) r k =
     let session : Session = lane_session l.params number bits in
-    begun-back time l (record { time = time; place = place; number = number; bits = bits }) session
-    (sender_due session.sender) k
-back-step time l Send r k = sends-back time l l.sender k
+    begin-keeps BackKeeps time l
+    (record { time = time; place = place; number = number; bits = bits }) session
+    (sender_due session.sender) k (λ sender out reports. k)
+back-step time l Send r k = send-keeps BackKeeps time l l.sender (λ sender out reports. k)
 back-step time l Answer r k = answer-back l (receiver_due l.reception.receiver) refl r k
 back-step time l (Fragment m) r k =
     took-back time l m (reading_in l.params.frag.mode side.Fragments m.bytes) k
@@ -464,12 +439,6 @@ begun-reports time l begun session None k = k
 begun-reports time l begun session (Some bytes) k =
     more-earned l.joins l.reports time (Some begun.place) (kind_sent session)
     (λ e. absurd (kind_sent-tells session e)) k
-
-answer-reports : (l : Lane) (bytes : Option (List ℕ)) → ReportsKeep l
-    → ReportsKeep (lane_answered l bytes)
-unfolding lane_answered
-answer-reports l None k = k
-answer-reports l (Some bytes) k = k
 
 earned-more : (joins more : List Check) (report : LaneReport) → IsEarned joins report
     → IsEarned (joins ++ more) report
@@ -540,7 +509,8 @@ reports-step time l (Begin place number bits) p f b k =
     begun-reports time l (record { time = time; place = place; number = number; bits = bits })
     session (sender_due session.sender) k
 reports-step time l Send p f b k = sends-reports time l l.sender k
-reports-step time l Answer p f b k = answer-reports l (receiver_due l.reception.receiver) k
+reports-step time l Answer p f b k =
+    answer-keeps ReportsKeep l (receiver_due l.reception.receiver) (λ reception back. k)
 reports-step time l (Fragment m) p f b k =
     took-reports time l m (reading_in l.params.frag.mode side.Fragments m.bytes) k
 reports-step time l (Ack m) p f b k =

@@ -42,13 +42,14 @@ use Rattle.lanes.specs.Fresh.{IsOfLast, IsFresh}
 use Rattle.lanes.specs.Held.{AreHeldOf, session_tiles, HoldsIn, HoldsOnly, HoldsOf}
 use Rattle.lanes.specs.Lane.{LaneParams, AreLaneParams, Begun, Lane, Msg, last_item, place_of}
 use Rattle.lanes.specs.Lane.{session_place}
-use Rattle.lanes.specs.Step.{msg, lane_session, lane_sent, lane_sends, lane_begun, lane_begins}
-use Rattle.lanes.specs.Step.{lane_told, lane_taken, lane_took, lane_answered, lane_step}
+use Rattle.lanes.specs.Step.{msg, lane_session, lane_begun, lane_begins, lane_told, lane_taken}
+use Rattle.lanes.specs.Step.{lane_took, lane_answered, lane_step}
 use Rattle.lanes.proofs.EarnedKept.{ReceiverKeeps, answered-phase, idled-phase, lapsed-phase}
-use Rattle.lanes.proofs.ListLemmas.{all-weaken, all-append, all-among, among-more, among-last}
-use Rattle.lanes.proofs.ListLemmas.{last-push}
-use Rattle.lanes.proofs.SenderKept.{IsLast, SenderIs, SenderKeeps, begins-last}
+use Rattle.lanes.proofs.ListLemmas.{all-append, all-among, among-more, among-last, last-push}
+use Rattle.lanes.proofs.SenderKept.{IsLast, SenderKeeps}
 use Rattle.lanes.proofs.SenderLemmas.{IsSenderOf}
+use Rattle.lanes.proofs.SentLemmas.{SentKeeps, sent-step}
+use Rattle.lanes.proofs.StepLemmas.{send-keeps, begin-keeps, take-keeps, answer-keeps}
 use Rattle.lanes.proofs.TickedLemmas.{OutlastsTimers, ticked-keeps}
 use Rattle.lanes.proofs.TileLemmas.{HasRun, due-run}
 
@@ -98,40 +99,15 @@ last-none [] x e there = there
 last-none (first ∷ []) x e there = absurd cc
 last-none (first ∷ next ∷ begins) x e there = absurd (some-last next begins e)
 
-sent-begins : (time : ℕ) (l : Lane) (session : Session) (bytes : Option (List ℕ)) → BeginsKeep l
-    → BeginsKeep (lane_sent time l session bytes)
-unfolding lane_sent
-sent-begins time l session None k = k
-sent-begins time l session (Some bytes) k = k
-
-sends-begins : (time : ℕ) (l : Lane) (session : Option Session) → BeginsKeep l
-    → BeginsKeep (lane_sends time l session)
-unfolding lane_sends
-sends-begins time l None k = k
-sends-begins time l (Some session) k = sent-begins time l session (sender_due session.sender) k
-
 begun-begins : (time : ℕ) (l : Lane) (begun : Begun) (session : Session) (bytes : Option (List ℕ))
     → AllByRecursion (λ earlier. earlier.place < begun.place) l.begins → CanBegin begun.bits
     → BeginsKeep l → BeginsKeep (lane_begun time l begun session bytes)
-unfolding lane_begun
-begun-begins time l begun session None below can k = k
-begun-begins time l begun session (Some bytes) below can k = (
-  ascends-push l.begins begun below k.0,
-  all-append (λ (begun : Begun). CanBegin begun.bits)
-      l.begins (begun ∷ []) k.1 (can, tt),
-)
-
-took-begins : (time : ℕ) (l : Lane) (m : Msg) (reading : Result Message WireFault) → BeginsKeep l
-    → BeginsKeep (lane_took time l m reading)
-unfolding lane_took lane_taken
-took-begins time l m (Err fault) k = k
-took-begins time l m (Ok message) k = k
-
-answered-begins : (l : Lane) (bytes : Option (List ℕ)) → BeginsKeep l
-    → BeginsKeep (lane_answered l bytes)
-unfolding lane_answered
-answered-begins l None k = k
-answered-begins l (Some bytes) k = k
+begun-begins time l begun session bytes below can k =
+    begin-keeps BeginsKeep time l begun session bytes k (λ sender out reports. (
+      ascends-push l.begins begun below k.0,
+      all-append (λ (begun : Begun). CanBegin begun.bits)
+          l.begins (begun ∷ []) k.1 (can, tt),
+    ))
 
 -- after a possible event, too, the places of the sessions ascend, and their bits may go as such
 pub begins-step : (time : ℕ) (l : Lane) (event : LaneEvent) → Possible time l event → BeginsKeep l
@@ -141,10 +117,12 @@ begins-step time l (Begin place number bits) p k =
     let session : Session = lane_session l.params number bits in
     begun-begins time l (record { time = time; place = place; number = number; bits = bits })
     session (sender_due session.sender) p.1 p.2 k
-begins-step time l Send p k = sends-begins time l l.sender k
-begins-step time l Answer p k = answered-begins l (receiver_due l.reception.receiver) k
+begins-step time l Send p k = send-keeps BeginsKeep time l l.sender (λ sender out reports. k)
+begins-step time l Answer p k =
+    answer-keeps BeginsKeep l (receiver_due l.reception.receiver) (λ reception back. k)
 begins-step time l (Fragment m) p k =
-    took-begins time l m (reading_in l.params.frag.mode side.Fragments m.bytes) k
+    take-keeps BeginsKeep time l m (reading_in l.params.frag.mode side.Fragments m.bytes)
+    (λ reception label kept_label checks joins. k)
 begins-step time l (Ack m) p k = k
 begins-step time l SenderTick p k = k
 begins-step time l ReceiverTick p k = k
@@ -164,21 +142,18 @@ pub record IsRunMsg (params : LaneParams) (begins : List Begun) (m : Msg) : Type
 -- each message that was sent is of a session that began; in ACK-on-Error each Regular has a run of
 -- its tiles
 abbrev pub RunsKeep : Lane → Type 0
-RunsKeep l = AllByRecursion (IsRunMsg l.params l.begins) l.out
+RunsKeep l = SentKeeps IsRunMsg l
 
-runs-more : (params : LaneParams) (begins more : List Begun) (out : List Msg)
-    → AllByRecursion (IsRunMsg params begins) out
-    → AllByRecursion (IsRunMsg params (begins ++ more)) out
-runs-more params begins more out k =
-    all-weaken (IsRunMsg params begins) (IsRunMsg params (begins ++ more)) out
-    (λ m run.
+runs-more : (params : LaneParams) (begins : List Begun) (begun : Begun) (m : Msg)
+    → IsRunMsg params begins m → IsRunMsg params (begins ++ begun ∷ []) m
+runs-more params begins begun m run =
     record {
       begun = run.begun;
-      there = among-more run.begun begins more run.there;
+      there = among-more run.begun begins (begun ∷ []) run.there;
       labelled =
           run.labelled;
       runs = run.runs;
-    }) k
+    }
 
 -- the tiles of a sender are those of its session
 tiles_in : FragParams → ℕ → LastTile → List Bool → List (List Bool)
@@ -239,66 +214,11 @@ due-runs params begins s at bytes k e =
       runs = sender-run params k.begun.bits s bytes k.of_it e;
     }
 
-sent-runs : (time : ℕ) (l : Lane) (session : Session) (bytes : Option (List ℕ))
-    → sender_due session.sender ≡ bytes → IsLast l.params l.begins session.sender → RunsKeep l
-    → RunsKeep (lane_sent time l session bytes)
-unfolding lane_sent
-sent-runs time l session None e is k = k
-sent-runs time l session (Some bytes) e is k =
-    all-append (IsRunMsg l.params l.begins) l.out
-    (msg (session_place l.begins) l.sender_time bytes ∷ []) k
-    (due-runs l.params l.begins session.sender l.sender_time bytes is e, tt)
-
-sends-runs : (time : ℕ) (l : Lane) (session : Option Session) → SenderIs l.params l.begins session
-    → RunsKeep l → RunsKeep (lane_sends time l session)
-unfolding lane_sends
-sends-runs time l None is k = k
-sends-runs time l (Some session) is k =
-    sent-runs time l session (sender_due session.sender) refl is k
-
-begun-runs : (time : ℕ) (l : Lane) (begun : Begun) (session : Session) (bytes : Option (List ℕ))
-    → sender_due session.sender ≡ bytes → IsLast l.params (l.begins ++ begun ∷ []) session.sender
-    → RunsKeep l → RunsKeep (lane_begun time l begun session bytes)
-unfolding lane_begun
-begun-runs time l begun session None e is k = k
-begun-runs time l begun session (Some bytes) e is k =
-    let begins : List Begun = l.begins ++ begun ∷ [] in
-    all-append (IsRunMsg l.params begins) l.out (msg (Some begun.place) l.sender_time bytes ∷ [])
-    (runs-more l.params l.begins (begun ∷ []) l.out k) (
-      subst (λ (label : Option ℕ). IsRunMsg l.params begins (msg label l.sender_time bytes))
-          (ap place_of (last-push l.begins begun))
-          (due-runs l.params begins session.sender l.sender_time bytes is e),
-      tt,
-    )
-
-took-runs : (time : ℕ) (l : Lane) (m : Msg) (reading : Result Message WireFault) → RunsKeep l
-    → RunsKeep (lane_took time l m reading)
-unfolding lane_took lane_taken
-took-runs time l m (Err fault) k = k
-took-runs time l m (Ok message) k = k
-
-answered-runs : (l : Lane) (bytes : Option (List ℕ)) → RunsKeep l → RunsKeep (lane_answered l bytes)
-unfolding lane_answered
-answered-runs l None k = k
-answered-runs l (Some bytes) k = k
-
 -- after a possible event, too, each Regular of ACK-on-Error has a run of the tiles of its session,
 -- where the sender is that of the last session
 pub runs-step : (time : ℕ) (l : Lane) (event : LaneEvent) → Possible time l event → SenderKeeps l
     → RunsKeep l → RunsKeep (lane_step time l event)
-unfolding lane_step lane_begins lane_told
-runs-step time l (Begin place number bits) p s k =
-    let begun : Begun = record { time = time; place = place; number = number; bits = bits } in
-    let session : Session = lane_session l.params number bits in
-    begun-runs time l begun session (sender_due session.sender) refl (begins-last l begun s.0 p.2) k
-runs-step time l Send p s k = sends-runs time l l.sender s.1 k
-runs-step time l Answer p s k = answered-runs l (receiver_due l.reception.receiver) k
-runs-step time l (Fragment m) p s k =
-    took-runs time l m (reading_in l.params.frag.mode side.Fragments m.bytes) k
-runs-step time l (Ack m) p s k = k
-runs-step time l SenderTick p s k = k
-runs-step time l ReceiverTick p s k = k
-runs-step time l Abort p s k = k
+runs-step = sent-step IsRunMsg (record { stays = runs-more; given = due-runs })
 
 -- The receiver.
 
@@ -469,18 +389,6 @@ took-held time l m (Err fault) e are k r run fresh h = h
 took-held time l m (Ok message) e are k r run fresh h =
     taken-held l m message (last_item l.begins) refl are k r run fresh e h
 
-sent-held : (time : ℕ) (l : Lane) (session : Session) (bytes : Option (List ℕ)) → HeldKeeps l
-    → HeldKeeps (lane_sent time l session bytes)
-unfolding lane_sent
-sent-held time l session None h = h
-sent-held time l session (Some bytes) h = h
-
-sends-held : (time : ℕ) (l : Lane) (session : Option Session) → HeldKeeps l
-    → HeldKeeps (lane_sends time l session)
-unfolding lane_sends
-sends-held time l None h = h
-sends-held time l (Some session) h = sent-held time l session (sender_due session.sender) h
-
 empty-holds : (tiles : List (List Bool)) (r : Receiver) → receiver_phase r ≡ phase.Empty
     → HoldsOnly tiles r
 unfolding receiver_phase aoe.receiver_phase
@@ -493,12 +401,11 @@ empty-holds tiles (AckOnError (aoe.Finished places last answer)) e = absurd cc
 begun-held : (time : ℕ) (l : Lane) (begun : Begun) (session : Session) (bytes : Option (List ℕ))
     → receiver_phase l.reception.receiver ≡ phase.Empty → HeldKeeps l
     → HeldKeeps (lane_begun time l begun session bytes)
-unfolding lane_begun
-begun-held time l begun session None e h = h
-begun-held time l begun session (Some bytes) e h =
+begun-held time l begun session bytes e h =
+    begin-keeps HeldKeeps time l begun session bytes h (λ sender out reports.
     subst (λ (last : Option Begun). HoldsOf l.params last l.reception.receiver)
     (sym (last-push l.begins begun))
-    (empty-holds (session_tiles l.params begun.bits) l.reception.receiver e)
+    (empty-holds (session_tiles l.params begun.bits) l.reception.receiver e))
 
 answered-holds : (tiles : List (List Bool)) (r : Receiver) → HoldsOnly tiles r
     → HoldsOnly tiles (receiver_answered r)
@@ -562,7 +469,8 @@ held-step time l (Begin place number bits) p f are k r runs h =
     let session : Session = lane_session l.params number bits in
     begun-held time l (record { time = time; place = place; number = number; bits = bits }) session
     (sender_due session.sender) f h
-held-step time l Send p f are k r runs h = sends-held time l l.sender h
+held-step time l Send p f are k r runs h =
+    send-keeps HeldKeeps time l l.sender (λ sender out reports. h)
 held-step time l Answer p f are k r runs h = answered-held l (receiver_due l.reception.receiver) h
 held-step time l (Fragment m) p f are k r runs h =
     took-held time l m (reading_in l.params.frag.mode side.Fragments m.bytes) refl are k r

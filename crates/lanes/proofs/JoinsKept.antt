@@ -27,13 +27,13 @@ use Rattle.lanes.specs.Events.{ReceiverTick, Abort, Possible}
 use Rattle.lanes.specs.Honest.{IsRcsOf}
 use Rattle.lanes.specs.Lane.{LaneParams, Begun, Check, Lane, Msg}
 use Rattle.lanes.specs.Laws.{IsRightMsg, IsRightJoin}
-use Rattle.lanes.specs.Step.{lane_session, lane_sent, lane_sends, lane_begun, lane_begins}
-use Rattle.lanes.specs.Step.{lane_told, checked_label, checks_of, lane_taken, lane_took}
-use Rattle.lanes.specs.Step.{lane_answered, lane_step}
+use Rattle.lanes.specs.Step.{lane_session, lane_begun, lane_begins, lane_told, checked_label}
+use Rattle.lanes.specs.Step.{checks_of, lane_taken, lane_took, lane_answered, lane_step}
 use Rattle.lanes.proofs.ListLemmas.{all-weaken, all-append, all-among, among-more, among-after}
 use Rattle.lanes.proofs.OutKept.{OutKeeps, rcs-more}
 use Rattle.lanes.proofs.PassedLemmas.{CameIs, LastIs, KeptIs, IsPassed, passed-is, taken-kept}
 use Rattle.lanes.proofs.PassedLemmas.{answered-kept, idled-kept, lapsed-kept}
+use Rattle.lanes.proofs.StepLemmas.{send-keeps, begin-keeps, answer-keeps}
 use Rattle.lanes.proofs.TickedLemmas.{OutlastsTimers, ticked-keeps}
 
 -- the All-1 that is kept carries the RCS of the session with the kept label
@@ -91,26 +91,13 @@ new-kept P mode.AckOnError = tt
 pub kept-begins : (P : ℕ → Type 0) (m : FragMode) → KeptIs P (new_receiver m)
 kept-begins P m = new-kept P m
 
-sent-kept : (time : ℕ) (l : Lane) (session : Session) (bytes : Option (List ℕ)) → KeptKeeps l
-    → KeptKeeps (lane_sent time l session bytes)
-unfolding lane_sent
-sent-kept time l session None k = k
-sent-kept time l session (Some bytes) k = k
-
-sends-kept : (time : ℕ) (l : Lane) (session : Option Session) → KeptKeeps l
-    → KeptKeeps (lane_sends time l session)
-unfolding lane_sends
-sends-kept time l None k = k
-sends-kept time l (Some session) k = sent-kept time l session (sender_due session.sender) k
-
 begun-kept : (time : ℕ) (l : Lane) (begun : Begun) (session : Session) (bytes : Option (List ℕ))
     → KeptKeeps l → KeptKeeps (lane_begun time l begun session bytes)
-unfolding lane_begun
-begun-kept time l begun session None k = k
-begun-kept time l begun session (Some bytes) k =
+begun-kept time l begun session bytes k =
+    begin-keeps KeptKeeps time l begun session bytes k (λ sender out reports.
     kept-weaken (IsRcsOf l.params l.begins l.kept_label)
     (IsRcsOf l.params (l.begins ++ begun ∷ []) l.kept_label) l.reception.receiver
-    (λ rcs. rcs-more l.params l.begins (begun ∷ []) l.kept_label rcs) k
+    (λ rcs. rcs-more l.params l.begins (begun ∷ []) l.kept_label rcs) k)
 
 took-kept : (time : ℕ) (l : Lane) (m : Msg) (reading : Result Message WireFault)
     → reading_in l.params.frag.mode side.Fragments m.bytes ≡ reading → Among m l.out → OutKeeps l
@@ -140,7 +127,7 @@ kept-step time l (Begin place number bits) p o k =
     let session : Session = lane_session l.params number bits in
     begun-kept time l (record { time = time; place = place; number = number; bits = bits }) session
     (sender_due session.sender) k
-kept-step time l Send p o k = sends-kept time l l.sender k
+kept-step time l Send p o k = send-keeps KeptKeeps time l l.sender (λ sender out reports. k)
 kept-step time l Answer p o k = answer-kept l (receiver_due l.reception.receiver) k
 kept-step time l (Fragment m) p o k =
     took-kept time l m (reading_in l.params.frag.mode side.Fragments m.bytes) refl p.0 o k
@@ -209,26 +196,13 @@ new-joins params begins checks time session made (Some assembly) passed earlier 
       tt,
     )
 
-sent-joins : (time : ℕ) (l : Lane) (session : Session) (bytes : Option (List ℕ)) → JoinsKeep l
-    → JoinsKeep (lane_sent time l session bytes)
-unfolding lane_sent
-sent-joins time l session None k = k
-sent-joins time l session (Some bytes) k = k
-
-sends-joins : (time : ℕ) (l : Lane) (session : Option Session) → JoinsKeep l
-    → JoinsKeep (lane_sends time l session)
-unfolding lane_sends
-sends-joins time l None k = k
-sends-joins time l (Some session) k = sent-joins time l session (sender_due session.sender) k
-
 begun-joins : (time : ℕ) (l : Lane) (begun : Begun) (session : Session) (bytes : Option (List ℕ))
     → JoinsKeep l → JoinsKeep (lane_begun time l begun session bytes)
-unfolding lane_begun
-begun-joins time l begun session None k = k
-begun-joins time l begun session (Some bytes) k =
+begun-joins time l begun session bytes k =
+    begin-keeps JoinsKeep time l begun session bytes k (λ sender out reports.
     all-weaken (IsRightJoin l.params l.begins l.checks)
     (IsRightJoin l.params (l.begins ++ begun ∷ []) l.checks) l.joins
-    (join-begun l.params l.begins (begun ∷ []) l.checks) k
+    (join-begun l.params l.begins (begun ∷ []) l.checks) k)
 
 taken-joins : (time : ℕ) (l : Lane) (label : Option ℕ) (message : Message) (payload : List Bool)
     → CameIs (IsRcsOf l.params l.begins label) message
@@ -257,12 +231,6 @@ took-joins time l m (Ok message) e p o kept k =
     taken-joins time l m.label message (payload_in message (octets m.bytes))
     (sent-came l m message o p.0 e) p.1 kept k
 
-answer-joins : (l : Lane) (bytes : Option (List ℕ)) → JoinsKeep l
-    → JoinsKeep (lane_answered l bytes)
-unfolding lane_answered
-answer-joins l None k = k
-answer-joins l (Some bytes) k = k
-
 -- after a possible event, too, each assembly that passed has the RCS of its session, where each
 -- All-1 that was sent or is kept carries its session's
 pub joins-step : (time : ℕ) (l : Lane) (event : LaneEvent) → Possible time l event → OutKeeps l
@@ -272,8 +240,10 @@ joins-step time l (Begin place number bits) p o kept k =
     let session : Session = lane_session l.params number bits in
     begun-joins time l (record { time = time; place = place; number = number; bits = bits }) session
     (sender_due session.sender) k
-joins-step time l Send p o kept k = sends-joins time l l.sender k
-joins-step time l Answer p o kept k = answer-joins l (receiver_due l.reception.receiver) k
+joins-step time l Send p o kept k =
+    send-keeps JoinsKeep time l l.sender (λ sender out reports. k)
+joins-step time l Answer p o kept k =
+    answer-keeps JoinsKeep l (receiver_due l.reception.receiver) (λ reception back. k)
 joins-step time l (Fragment m) p o kept k =
     took-joins time l m (reading_in l.params.frag.mode side.Fragments m.bytes) refl p o kept k
 joins-step time l (Ack m) p o kept k = k

@@ -1,7 +1,9 @@
 pub mod ListLemmas
 pub mod RunLemmas
+pub mod StepLemmas
 pub mod SenderLemmas
 pub mod SenderKept
+pub mod SentLemmas
 pub mod WireLemmas
 pub mod OutKept
 pub mod PassedLemmas

@@ -1,5 +1,6 @@
 -- One round of a session of which nothing is lost.
-use Rattle.std.specs.Prelude.{ℕ, ◌≡◌, Bool, true, false, List, Option, Some, None, Result, Ok}
+use Rattle.std.specs.Prelude.{ℕ, ◌≡◌, ◌≤◌, Bool, true, false, List, length, Option, Some, None}
+use Rattle.std.specs.Prelude.{Result, Ok}
 use Rattle.std.proofs.Common.{refl, sym, ap, subst, ◌∙◌}
 use Rattle.schc_bits.specs.Bits.{octets}
 use Rattle.schc_ids.specs.Fragments.{IsFragParams}
@@ -17,6 +18,7 @@ use Rattle.frag_wire.specs.Spells.{CanSpell, reading_in}
 use Rattle.frag_wire.specs.declared.message.Message.{Message}
 use Rattle.frag_wire.proofs.ReadingLemmas.{reading-spelled}
 use Rattle.frag_wire.proofs.WrittenLemmas.{IsWritten-written}
+use Rattle.tiles_bitmap.specs.Tiles.{tiles}
 use Rattle.sessions.specs.Receivers.{new_receiver, receiver_mode, receiver_phase, receiver_taken}
 use Rattle.sessions.specs.Receivers.{receiver_previewed, receiver_due, receiver_answered}
 use Rattle.sessions.specs.Reception.{Reception, reception_taken, reception_answered}
@@ -32,9 +34,9 @@ use Rattle.aoe_receiver.specs.Steps as aoe_step
 use Rattle.schc_ids.specs.declared.phases.ReceiverPhase.TheVariants as receiver_phases
 use Rattle.sessions.specs.declared.senders.Sender.{Sender}
 use Rattle.lanes.specs.Events.{CanBegin}
-use Rattle.lanes.specs.Lane.{LaneParams, AreLaneParams}
+use Rattle.lanes.specs.Lane.{LaneParams, AreLaneParams, padded_of}
 use Rattle.lanes.specs.Rounds.{Talk, took_reading, joined_reading, heard_reading, talk_sent}
-use Rattle.lanes.specs.Rounds.{talk_answered, talk_round, IsRound, EndsWell}
+use Rattle.lanes.specs.Rounds.{talk_answered, talk_round, IsRound, Ends, new_talk, EndsWell}
 use Rattle.lanes.specs.Step.{kind_sent}
 
 -- in this mode a session of which nothing is lost ends well
@@ -42,6 +44,22 @@ abbrev pub CleanIn : FragMode → Type 0
 CleanIn m =
     (params : LaneParams) (number : ℕ) (bits : List Bool) (left : Option ℕ) → AreLaneParams params →
     params.frag.mode ≡ m → CanBegin bits → EndsWell params number bits left
+
+-- where so many rounds and one more, no more than there are tiles, end a session of this mode, it
+-- ends well
+pub ends-well : (m : FragMode) (params : LaneParams) (number : ℕ) (bits : List Bool)
+    (left : Option ℕ) (more : ℕ) → params.frag.mode ≡ m
+    → more ≤ length (tiles params.frag params.ends.mtu bits)
+    → Ends m params.ends.ticks (padded_of params bits) more (new_talk params number bits left)
+    → EndsWell params number bits left
+ends-well m params number bits left more e few ends =
+    record {
+      more = more;
+      few = few;
+      ends =
+          subst (λ (m : FragMode). Ends m params.ends.ticks (padded_of params bits) more
+          (new_talk params number bits left)) (sym e) ends;
+    }
 
 -- a round that leads to this sender and this receiver
 pub record Leads (m : FragMode) (ticks : TimerTicks) (t : Talk) (joined : Option (List Bool))

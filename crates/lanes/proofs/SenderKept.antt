@@ -17,13 +17,13 @@ use Rattle.sessions.specs.Session.{session_aborted, fired_in, session_fired, ses
 use Rattle.sessions.specs.declared.senders.Sender.{Sender}
 use Rattle.lanes.specs.Events.{LaneEvent, Begin, Send, Answer, Fragment, Ack, SenderTick}
 use Rattle.lanes.specs.Events.{ReceiverTick, Abort, Possible, CanBegin}
-use Rattle.lanes.specs.Lane.{LaneParams, AreLaneParams, Begun, Lane, Msg, last_item}
+use Rattle.lanes.specs.Lane.{LaneParams, AreLaneParams, Begun, Lane, last_item}
 use Rattle.lanes.specs.Step.{lane_session, lane_sent, lane_sends, lane_begun, lane_begins, heard_by}
-use Rattle.lanes.specs.Step.{aborted_by, ticked_by, lane_told, lane_taken, lane_took, lane_answered}
-use Rattle.lanes.specs.Step.{lane_step}
+use Rattle.lanes.specs.Step.{aborted_by, ticked_by, lane_told, lane_step}
 use Rattle.lanes.proofs.ListLemmas.{last-push}
 use Rattle.lanes.proofs.SenderLemmas.{IsSenderOf, begun-is, sent-is, heard-is, retried-is}
 use Rattle.lanes.proofs.SenderLemmas.{aborted-is}
+use Rattle.lanes.proofs.StepLemmas.{take-keeps, answer-keeps}
 
 -- the sender is that of the last session that began
 pub record IsLast (params : LaneParams) (begins : List Begun) (sender : Sender) : Type 0 where
@@ -137,18 +137,6 @@ begun_due-is time l begun session None is k = k
 begun_due-is time l begun session (Some bytes) is k =
     (k.0, session_sent-is l.params (l.begins ++ begun ∷ []) l.params.ends.ticks session is)
 
-took-is : (time : ℕ) (l : Lane) (m : Msg) (reading : Result Message WireFault) → SenderKeeps l
-    → SenderKeeps (lane_took time l m reading)
-unfolding lane_took lane_taken
-took-is time l m (Err fault) k = k
-took-is time l m (Ok message) k = k
-
-answered-is : (l : Lane) (bytes : Option (List ℕ)) → SenderKeeps l
-    → SenderKeeps (lane_answered l bytes)
-unfolding lane_answered
-answered-is l None k = k
-answered-is l (Some bytes) k = k
-
 -- after a possible event, too, the sender is that of the last session that began
 pub sender-step : (time : ℕ) (l : Lane) (event : LaneEvent) → Possible time l event → SenderKeeps l
     → SenderKeeps (lane_step time l event)
@@ -158,9 +146,11 @@ sender-step time l (Begin place number bits) p k =
     let session : Session = lane_session l.params number bits in
     begun_due-is time l begun session (sender_due session.sender) (begins-last l begun k.0 p.2) k
 sender-step time l Send p k = sends-is time l l.sender k.1 k
-sender-step time l Answer p k = answered-is l (receiver_due l.reception.receiver) k
+sender-step time l Answer p k =
+    answer-keeps SenderKeeps l (receiver_due l.reception.receiver) (λ reception back. k)
 sender-step time l (Fragment m) p k =
-    took-is time l m (reading_in l.params.frag.mode side.Fragments m.bytes) k
+    take-keeps SenderKeeps time l m (reading_in l.params.frag.mode side.Fragments m.bytes)
+    (λ reception label kept_label checks joins. k)
 sender-step time l (Ack m) p k = (
   k.0,
   heard_by-is l.params l.begins l.params.ends.ticks l.sender

@@ -6,10 +6,8 @@ use Rattle.tiles_bitmap.specs.Places.{Among}
 use Rattle.lanes.specs.Lane.{Lane, Msg}
 
 -- a session begins, with its place, its number and its bits, and gives its first message; the
--- sender gives a message, or the
--- receiver an answer; one of the sender's messages, or an answer, is delivered; a tick passes at
--- the sender's end, or at the
--- receiver's; the session is given up
+-- sender gives a message, or the receiver an answer; one of the sender's messages, or an answer, is
+-- delivered; a tick passes at the sender's end, or at the receiver's; the session is given up
 pub data LaneEvent : Type 0 where
   Begin : ℕ → ℕ → List Bool → LaneEvent
   Send : LaneEvent
@@ -26,8 +24,7 @@ pub record CanBegin (bits : List Bool) : Type 0 where
   pub most : length bits ≤ max_session_bits
 
 -- the event can come to pass at this time: a session begins where there is none, at a place above
--- all before; a message that is
--- delivered was sent, and what it belongs to came earlier
+-- all before; a message that is delivered was sent, and what it belongs to came earlier
 abbrev pub Possible : ℕ → Lane → LaneEvent → Type 0
 Possible time l (Begin place number bits) =
     (l.sender ≡ None) × AllByRecursion (λ begun. begun.place < place) l.begins × CanBegin bits

@@ -27,8 +27,8 @@ IsFreshAnswer l m (Ok form.ReceiverAbort) = Unit {0}
 IsFreshAnswer l m (Err fault) = Unit {0}
 
 -- a message of the sender, or an ACK, is delivered only while no later session than its own has
--- begun; and where a session
--- begins the receiver is empty, so that no answer is due. An abort may be due
+-- begun; and where a session begins the receiver is empty, so that no answer is due. An abort may
+-- be due
 abbrev pub IsFresh : ℕ → Lane → LaneEvent → Type 0
 IsFresh time l (Begin place number bits) = receiver_phase l.reception.receiver ≡ phase.Empty
 IsFresh time l Send = Unit {0}

@@ -1,6 +1,5 @@
 -- A lane is what belongs to one key (RFC 8724, section 8.2.4): the sender at one end, the receiver
--- at the other, the messages
--- between them, and what came to pass.
+-- at the other, the messages between them, and what came to pass.
 use Rattle.std.specs.Prelude.{ℕ, Bool, List, [], ◌∷◌, Option, Some, None}
 use Rattle.schc_ids.specs.Fragments.{IsFragParams}
 use Rattle.schc_ids.specs.Params.{IsParams}
@@ -22,8 +21,7 @@ pub record AreLaneParams (params : LaneParams) : Type 0 where
   pub in_range : IsParams params.ends
 
 -- a message that was sent. The label is the session that it belongs to, which is its place in the
--- list of all sessions that
--- began; `sent_at` is how many ticks had passed at its sender's end
+-- list of all sessions that began; `sent_at` is how many ticks had passed at its sender's end
 pub record Msg : Type 0 where
   pub label : Option ℕ
   pub sent_at : ℕ
@@ -51,10 +49,9 @@ pub record LaneReport : Type 0 where
   pub kind : ReportKind
 
 -- the label is that of the last message that the receiver took otherwise than as a remnant, and the
--- kept label that of the All-1
--- that it keeps; `out` has the sender's messages and `back` the receiver's; of the checks that were
--- made, `joins` has those that
--- passed; and how many ticks have passed at each end
+-- kept label that of the All-1 that it keeps; `out` has the sender's messages and `back` the
+-- receiver's; of the checks that were made, `joins` has those that passed; and how many ticks have
+-- passed at each end
 pub record Lane : Type 0 where
   pub params : LaneParams
   pub sender : Option Session
@@ -103,7 +100,6 @@ abbrev pub session_place : List Begun → Option ℕ
 session_place begins = place_of (last_item begins)
 
 -- RFC 8724, section 8.2.3: the SCHC packet of a session with these bits, with the padding of the
--- fragment that carries its last
--- tile
+-- fragment that carries its last tile
 abbrev pub padded_of : LaneParams → List Bool → List Bool
 padded_of params bits = padded_packet params.frag params.ends.mtu bits

@@ -1,6 +1,5 @@
 -- A session of which nothing is lost: in each round the sender gives a message, which is taken, and
--- where the receiver then has
--- an answer due, it gives it, and the session hears it.
+-- where the receiver then has an answer due, it gives it, and the session hears it.
 use Rattle.std.specs.Prelude.{ℕ, ◌≡◌, ◌≤◌, zero, suc, Bool, List, length, Option, Some, None}
 use Rattle.std.specs.Prelude.{Result, Ok, Err}
 use Rattle.schc_bits.specs.Bits.{octets}
@@ -72,8 +71,7 @@ talk_round m ticks t bytes =
     talk_answered m ticks s (receiver_due s.reception.receiver)
 
 -- a round: the session is sending, and this is joined, and reported when the message is given or
--- the answer heard; then the
--- receiver has no answer due
+-- the answer heard; then the receiver has no answer due
 pub record IsRound (m : FragMode) (ticks : TimerTicks) (t : Talk) (joined : Option (List Bool))
     (sent : Option ReportKind) (told : Option ReportKind) (after : Talk) : Type 0 where
   pub sending : sender_phase t.session.sender ≡ phase.Sending
