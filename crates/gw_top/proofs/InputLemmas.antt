@@ -24,7 +24,7 @@ pub unread_left : {A : Type 0} (reads : Bool) (result : Result (Vec ℕ A) ReadA
     (old new : SourceState) → GivesInput reads result old new → LeavesUnread reads old new
 unread_left true result old new gave = tt
 unread_left false (Ok text) old new gave = gave.1
-unread_left false (Err fault) old new gave = absurd gave
+unread_left false (Err why) old new gave = absurd gave
 
 content-is : (left : Option (List ℕ)) (bytes text : List ℕ) → IsContent left bytes
     → left ≡ Some text → text ≡ bytes

@@ -133,8 +133,7 @@ pub record WritesFront (call : Call) : Type 0 where
   pub written : Appends call.sink.written call.sink_after.written (take size output.text)
 
 -- the command ends with this finding, and what it prints up to there was written: all of it, or the
--- first bytes where a
--- write failed
+-- first bytes where a write failed
 pub record IsRefused (call : Call) (finding : Finding) : Type 0 where
   pub output : OutputData
   pub its_output : IsOutputOf call output
@@ -159,8 +158,7 @@ pub record IsTooLong (call : Call) : Type 0 where
   pub consumed : Consumes call.source.left call.source_after.left front
 
 -- what is counted is the bytes of the source, of which it has too many, or the devices or events of
--- a script, of which a line
--- makes one too many, where no earlier line is outside the grammar
+-- a script, of which a line makes one too many, where no earlier line is outside the grammar
 abbrev pub IsPastLimit : Counted → ℕ → Call → Type 0
 IsPastLimit counted number call =
     ((counted ≡ Bytes) × (number ≡ max_input + 1) × ReadsInput call × IsTooLong call)
@@ -239,8 +237,7 @@ IsGiven true call text = (call.source.left ≡ Some text)
 IsGiven false call text = text ≡ []
 
 -- where the words name a command, which is given its input, and no call of the sink failed, the
--- status is the one for that
--- input, want of memory aside
+-- status is the one for that input, want of memory aside
 abbrev pub IsComplete : Status → Call → Type 0
 IsComplete answer call =
     (command : Command) (text : List ℕ) → command_of call.words ≡ Ok command

@@ -33,8 +33,7 @@ is_publication (Publish raw) = true
 is_publication event = false
 
 -- the event is one of the world of the device with this number: one of its own, or a publication,
--- which is an event of every
--- device's world
+-- which is an event of every device's world
 abbrev pub is_event_of : ℕ → ScriptEventData → Bool
 is_event_of number e = is_publication e.event || (e.device == number)
 
@@ -80,8 +79,7 @@ chain_of events =
 -- The outcomes of a script's events.
 
 -- the outcome of an event as a line: two faults have one, a frame that was never sent and an
--- edition that the chain lacks. The
--- fault of a step is never `Memory`
+-- edition that the chain lacks. The fault of a step is never `Memory`
 abbrev pub line_of : Result Line StepFault → Line
 line_of (Ok line) = line
 line_of (Err (step_fault.NoSuchFrame number)) = NoFrame
@@ -144,12 +142,9 @@ abbrev pub first_events : ℕ → ScriptData → ScriptData
 first_events n script = record script { events = take n script.events }
 
 -- in a device's world after these events each packet that was handed up is one that was handed down
--- earlier at the other end,
--- but for fields that its rule drops, written and read by one rule of the editions published there,
--- and each session that was
--- reported delivered was put together before: what came in one frame always, all else where the
--- checks and the run are as the
--- headline asks
+-- earlier at the other end, but for fields that its rule drops, written and read by one rule of the
+-- editions published there, and each session that was reported delivered was put together before:
+-- what came in one frame always, all else where the checks and the run are as the headline asks
 abbrev pub IsSafeDevice : List ScriptEventData → DeviceRun → Type 0
 IsSafeDevice events one =
     IsHeadline one.device.params (events_of one.device.number events) one.history

@@ -57,8 +57,7 @@ with_workers (Sim one) workers = Sim workers
 with_workers (Load devices start one) workers = Load devices start workers
 
 -- A word is looked at with its place, counted from 1. An `Err` is the place of the first word that
--- is outside the grammar, or
--- one past the last where one lacks.
+-- is outside the grammar, or one past the last where one lacks.
 
 -- no word stands at this place
 abbrev pub ended : ℕ → Command → List (List ℕ) → Result Command ℕ

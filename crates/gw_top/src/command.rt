@@ -34,12 +34,10 @@ fn input_of<S: Source>(
 }
 
 /// Runs the command that the words name: `check` reads a context, and writes a line for each of its
-/// editions; `pack`
-/// and `unpack` read a work file, and write a line for each of its packets; `sim` reads a script,
-/// and writes a line for
-/// each of its events; `load` reads nothing, makes a script of two numbers, and writes one line
-/// with the sums over its
-/// run. What is written doesn't depend on the number of workers.
+/// editions; `pack` and `unpack` read a work file, and write a line for each of its packets; `sim`
+/// reads a script, and writes a line for each of its events; `load` reads nothing, makes a script
+/// of two numbers, and writes one line with the sums over its run. What is written doesn't depend
+/// on the number of workers.
 #[tactic(auto, using(crate::proofs::InputLemmas::unread_left))]
 pub fn run<R: Threads + AllocGlobal + Sync, S: Source, K: Sink>(
     rt: &R,
@@ -52,8 +50,7 @@ pub fn run<R: Threads + AllocGlobal + Sync, S: Source, K: Sink>(
         (K.state output.new)) }
 
     // For a source that tells its text, and for `load` with any source, the status is determined,
-    // want of memory and faults
-    // aside.
+    // want of memory and faults aside.
     ensures complete { IsComplete result
         (call words.now (S.state input.old) (S.state input.new) (K.state output.old)
         (K.state output.new)) }

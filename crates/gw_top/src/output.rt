@@ -42,8 +42,7 @@ fn sim_output<R: Threads + Sync>(
 }
 
 /// The line that `load` prints for so many devices and a start: the numbers of the run of its
-/// script, made by so many
-/// workers.
+/// script, made by so many workers.
 ///
 /// # Errors
 /// Want of memory.

@@ -11,12 +11,10 @@ pub enum Status {
     /// An edition of the input has this finding, the first one.
     Refused(Finding),
     /// The words are outside the grammar; the number is the place of the first bad word, from 1, or
-    /// one past the
-    /// last word where one lacks.
+    /// one past the last word where one lacks.
     Usage(u32),
     /// The input is outside the grammar: the number of the first such line of a script, from 1, or
-    /// 0 for a JSON
-    /// file, in which lines are not told apart.
+    /// 0 for a JSON file, in which lines are not told apart.
     BadInput(u64),
     /// A read of the source failed.
     ReadFault,

@@ -1,9 +1,7 @@
 //! The words of a call.
 
 ghost use Rattle.std.specs.Prelude.{◌≡◌, ◌+◌, ◌<◌, ◌≤◌, ◌^◌, map, string_bytes, IfSome, IfOk};
-ghost use Rattle.std.specs.Char.{is_ascii_digit};
-ghost use Rattle.std.specs.List.{list_all};
-ghost use Rattle.script_lang.specs.Text.{is_numeral, number_of};
+ghost use Rattle.script_lang.specs.Text.{number_of};
 ghost use Rattle.gw_top.specs.Words.{
   max_workers,
   AreWorkers,
@@ -57,40 +55,13 @@ impl Command {
     }
 }
 
-fn is_numeral(word: &[u8]) -> bool
-    ensures { result ≡ is_numeral word.now }
-{
-    match word {
-        [] => false,
-        [digit] => digit.is_ascii_digit(),
-        [digit, ..] => *digit != b'0' && all_digits(word),
-    }
-}
-
-fn all_digits(word: &[u8]) -> bool
-    ensures { result ≡ list_all is_ascii_digit word.now }
-{
-    word.iter().all(|digit| digit.is_ascii_digit())
-}
-
-/// The number below 2^64 that a word spells: decimal, without a sign and without a leading zero.
-#[tactic(auto, unfolding(script_lang::specs::Text::number_of))]
-fn parsed(word: &str) -> Option<u64>
-    ensures { result ≡ number_of (2 ^ 64) word.now }
-{
-    if !is_numeral(word.as_bytes()) {
-        return None;
-    }
-    word.parse::<u64>().ok()
-}
-
 /// The number below a limit that a word spells.
 #[tactic(auto, unfolding(script_lang::specs::Text::number_of))]
 fn number(limit: u64, word: &str) -> Option<u64>
     ensures number { result ≡ number_of limit word.now }
     ensures below { IfSome result (λ n. n < limit) }
 {
-    let found = parsed(word)?;
+    let found = script_lang::number(word.as_bytes())?;
     if found < limit { Some(found) } else { None }
 }
 

@@ -42,8 +42,7 @@ iids_of dev app = do
   Some (record { dev = d; app = a })
 
 -- an option with one value: where the words begin with its name, what the next word is read as,
--- else `default`; and the
--- words after it
+-- else `default`; and the words after it
 abbrev pub option_in : {A : Type 0} → List ℕ → (List ℕ → Option A) → A → List (List ℕ)
     → Option (A × List (List ℕ))
 option_in name read default [] = Some (default, [])

@@ -33,8 +33,7 @@ Ok script >>= later = later script
 Err fault >>= later = Err fault
 
 -- the script with what the line of this number tells. A blank line or a comment tells `Nothing`; a
--- line of which
--- nothing at all can be told is outside the grammar
+-- line of which nothing at all can be told is outside the grammar
 abbrev pub with_line : ℕ → ScriptData → Option Told → Result ScriptData ScriptFault
 with_line number script None = Err (BadLine number)
 with_line number script (Some told) = with_told script told
@@ -52,8 +51,7 @@ abbrev pub empty_script : ScriptData
 empty_script = record { devices = []; events = [] }
 
 -- the script that a text is, or its first line that is outside the grammar or past a limit; lines
--- are counted from 1. The fault
--- is never `Memory`, of which a text can't tell
+-- are counted from 1. The fault is never `Memory`, of which a text can't tell
 abbrev pub script_of : List ℕ → Result ScriptData ScriptFault
 script_of text = with_lines 1 (lines_of text) empty_script
 

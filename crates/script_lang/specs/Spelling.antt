@@ -57,8 +57,8 @@ pub record IsDevice (devices : List DeviceLine) (device : ℕ) : Type 0 where
   pub declared : is_declared devices device ≡ true
 
 -- an event that a line can spell, where these devices are declared: its numbers are in their
--- ranges, a packet is one byte
--- at least, and the text of an edition that is published reads as that edition
+-- ranges, a packet is one byte at least, and the text of an edition that is published reads as that
+-- edition
 abbrev pub CanBeSpelled : List DeviceLine → ℕ → Event → Type 0
 CanBeSpelled devices device (Down role packet) = IsDevice devices device × IsBytes packet
     × (packet ≢ [])

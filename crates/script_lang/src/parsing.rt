@@ -31,8 +31,7 @@ pub enum ScriptFault {
     #[error("line {0} is no line of a script")]
     BadLine(u64),
     /// A line makes more events or devices than a script may have: what is counted, and the number
-    /// that
-    /// is reached.
+    /// that is reached.
     #[error("a limit of scripts is passed at {1}")]
     TooMany(Counted, u64),
     /// Memory is wanting.

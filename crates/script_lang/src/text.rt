@@ -68,9 +68,9 @@ fn all_digits(word: &[u8]) -> bool
     word.iter().all(|digit| digit.is_ascii_digit())
 }
 
-/// The number that a word spells: decimal, without a sign and without a leading zero.
+/// The number below 2^64 that a word spells: decimal, without a sign and without a leading zero.
 #[tactic(auto, unfolding(crate::specs::Text::number_of))]
-pub(crate) fn number(word: &[u8]) -> Option<u64>
+pub fn number(word: &[u8]) -> Option<u64>
     ensures { result ≡ number_of (2 ^ 64) word.now }
 {
     if !is_numeral(word) {
