@@ -1,3 +1,4 @@
+pub mod ExactLemmas
 pub mod FormLemmas
 pub mod FrameLemmas
 pub mod KeptLemmas

@@ -10,10 +10,8 @@ use Rattle.packer.specs.declared.packing.Packed.{Packed}
 use Rattle.sessions.specs.Data.{SessionsData}
 
 -- an end has its role and its parameters, the edition of rules that it knows and reads with, the
--- edition that it writes
--- with, the packets that wait, each as it was written when it was handed down, the first of which
--- is sent next, and what it
--- sends and receives in fragments
+-- edition that it writes with, the packets that wait, each as it was written when it was handed
+-- down, the first of which is sent next, and what it sends and receives in fragments
 pub record EndData : Type 0 where
   pub role : Role
   pub params : EndParams
@@ -27,8 +25,7 @@ abbrev pub after_id : List Bool → List Bool
 after_id bits = drop 8 bits
 
 -- the bytes of a frame that carries the SCHC packet whole: the RuleID goes by the port (RFC 9011,
--- section 5.1), and the
--- other bits in whole bytes (RFC 8724, section 9)
+-- section 5.1), and the other bits in whole bytes (RFC 8724, section 9)
 abbrev pub frame_size : List Bool → ℕ
 frame_size bits = (length (after_id bits) + 7) / 8
 

@@ -93,8 +93,8 @@ down_step end packet = down_from end (form_of end packet) (refusal end packet)
 -- The end may send one frame.
 
 -- the frame that carries the SCHC packet whole: its RuleID is the port, and what follows the RuleID
--- is the payload, with the
--- fewest zero bits after it that make whole bytes (RFC 9011, section 5.1; RFC 8724, section 9)
+-- is the payload, with the fewest zero bits after it that make whole bytes (RFC 9011, section 5.1;
+-- RFC 8724, section 9)
 abbrev pub frame_of : Packed → FrameData
 frame_of form = record { port = form.rule_id; bytes = bytes_of (padded (after_id form.bits)) }
 
@@ -111,8 +111,7 @@ abbrev pub without_first : EndData → EndData
 without_first end = record end { queue = drop 1 end.queue }
 
 -- what the end does with its turn: it gives what is next of the sessions, sends the packet whole,
--- begins a session with it, or
--- does nothing
+-- begins a session with it, or does nothing
 pub data Turn : Type 0 where
   Serves : Choice → Turn
   Sends : Packed → Turn
@@ -130,8 +129,7 @@ abbrev pub first_turn : EndData → Turn
 first_turn end = queue_turn end.params.mtu (session.may_begin end.sessions) (slice_get end.queue 0)
 
 -- first comes a due answer, then a Sender-Abort, then the next message of a session. What waits
--- comes after them, and where no
--- session is sending, waiting or closing
+-- comes after them, and where no session is sending, waiting or closing
 unfoldable pub turn_from : EndData → Choice → Turn
 turn_from end Idle = if session.busy_in end.sessions.senders then Rests else first_turn end
 turn_from end (GivesAnswer key reception bytes) = Serves (GivesAnswer key reception bytes)
@@ -194,8 +192,7 @@ taken_whole number (Ok unpacked) =
 taken_whole number (Err fault) = refused (Unpack fault)
 
 -- what the end answers to a fragment or an answer that meant this to its sessions: the packet that
--- it makes whole is handed up,
--- and where that can't be read, the frame is refused
+-- it makes whole is handed up, and where that can't be read, the frame is refused
 unfoldable pub taken_part : ℕ → Note × Option Report → Option (Result UnpackedData UnpackFault)
     → Taken
 taken_part number said None = record { up = None; report = said.1; note = said.0 }

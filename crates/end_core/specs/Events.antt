@@ -14,9 +14,8 @@ use Rattle.event_data.specs.declared.outcomes.Offered.{Offered}
 use Rattle.event_data.specs.declared.outcomes.Taken.{Taken}
 
 -- a packet is handed down, the end may send one frame, a frame arrives, a tick passes, the end
--- gives up the session that
--- it sends, is offered an edition of rules, or is allowed to write with the edition with this
--- number
+-- gives up the session that it sends, is offered an edition of rules, or is allowed to write with
+-- the edition with this number
 pub data EndEvent : Type 0 where
   Down : List ℕ → EndEvent
   Slot : EndEvent
@@ -27,9 +26,8 @@ pub data EndEvent : Type 0 where
   Allow : ℕ → EndEvent
 
 -- how a packet goes or why it is refused, the frame that is sent, what a frame meant, how a session
--- ended by a tick or by
--- being given up, what is said of an edition that was offered, and whether the end writes with the
--- one that it was allowed
+-- ended by a tick or by being given up, what is said of an edition that was offered, and whether
+-- the end writes with the one that it was allowed
 pub data Outcome : Type 0 where
   Handed : Result Accepted DownFault → Outcome
   Sent : Option Emitted → Outcome

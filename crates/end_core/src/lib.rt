@@ -2,6 +2,7 @@
 //!
 //! An [`End`] takes a packet that is handed down, gives the frame that is due at a slot, takes a frame,
 //! lets a tick pass, and learns the editions of rules that it is offered and allowed to write with.
+//! What it hands up stands in [`laws`].
 //!
 //! ```text
 //! let mut device = End::new(alloc, Role::Device, params)?;
@@ -15,6 +16,7 @@
 
 mod end;
 mod forms;
+pub mod laws;
 #[cfg(test)]
 mod tests;
 
