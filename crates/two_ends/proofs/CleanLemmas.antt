@@ -23,7 +23,9 @@ use Rattle.ip_udp_fields.specs.Fields.{has_ipv6_header}
 use Rattle.packer.specs.Packing.{packed}
 use Rattle.packer.specs.Unpacking.{unpacked}
 use Rattle.packer.specs.Laws.{IsSound, AgreeOn, RestoresUnder, IsReadAs}
+use Rattle.packer.specs.Schc.{IsChosen}
 use Rattle.packer.proofs.AgreeLemmas.{agree-later}
+use Rattle.packer.proofs.ChosenLemmas.{packed-chosen}
 use Rattle.packer.proofs.PackedLemmas.{packed-edition, packed-begins, BeginsWithId}
 use Rattle.event_data.specs.Records.{HandUpData}
 use Rattle.event_data.specs.Events.{Event, Down}
@@ -342,6 +344,24 @@ form-whole params h role packet k bytes =
     (form-is params h.world.chain role from packet (k.ends role))
     ∙ packed-whole to.role from.writes params.iids (sent_direction role) packet sound bytes
 
+-- it is written under the rule that is chosen
+form-chosen : (params : EndParams) (h : History) (role : Role) (packet : List ℕ) →
+    WorldKeeps params h → AreBytes packet →
+    IsChosen (end_of h.world role).writes (end_of h.world role).params.iids (sent_direction role)
+    packet (form_of (end_of h.world role) packet).rule_id
+    (form_of (end_of h.world role) packet).bits
+form-chosen params h role packet k bytes =
+    let from = end_of h.world role in
+    let sound = all-at_place IsSound h.world.chain from.writes.number from.writes k.chain.sound
+    (k.ends role).writes_with in
+    subst
+    (λ (p : EndParams). IsChosen from.writes p.iids (sent_direction role) packet
+    (form_of from packet).rule_id (form_of from packet).bits) (sym (k.ends role).its_params)
+    (subst
+    (λ (p : Packed). IsChosen from.writes params.iids (sent_direction role) packet p.rule_id
+    p.bits) (sym (form-is params h.world.chain role from packet (k.ends role)))
+    (packed-chosen from.writes params.iids (sent_direction role) packet sound bytes))
+
 -- a packet that fits waits alone, and the frame is read
 whole-held : (params : EndParams) (h : History) (role : Role) (packet : List ℕ) →
     WorldKeeps params h → WorldKeeps params (waits h role packet) → AreBytes packet →
@@ -424,6 +444,7 @@ whole-carried params h role packet zero keeps kept bytes ipv6 clean knows fit en
     absurd (omega (arith, enough))
 whole-carried params h role packet (suc count) keeps kept bytes ipv6 clean knows fit enough =
     record {
+      chosen = form-chosen params h role packet keeps bytes;
       arrives =
           brings params h role packet form (end_of h.world role).writes
           (end_of h.world (reader role)).known (carried (frame_of form)) now.logs b.time
@@ -566,6 +587,7 @@ unfolding after ups_after begins_after reports_after
 session-carried params h role packet rounds range keeps kept bytes ipv6 clean knows mode_is unfit
     enough =
     record {
+      chosen = form-chosen params h role packet keeps bytes;
       arrives =
           brings params h role packet form (end_of h.world role).writes to.known padded now.logs
           over.time (label.Session (length h.logs.begins)) k over.ups

@@ -36,8 +36,7 @@ use Rattle.two_ends.proofs.PerLemmas.{each-put_role}
 use Rattle.two_ends.proofs.GrownLemmas.{answered-chain, answered-ends}
 
 -- an end has its role and its parameters, the editions that it knows and writes with stand in the
--- chain, and what it keeps of its
--- sessions has its form
+-- chain, and what it keeps of its sessions has its form
 pub record EndKeeps (params : EndParams) (chain : List EditionData) (role : Role)
     (this : EndData) : Type 0 where
   pub its_role : this.role ≡ role

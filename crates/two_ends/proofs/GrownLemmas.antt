@@ -32,8 +32,7 @@ use Rattle.lanes.proofs.ListLemmas.{among-more}
 use Rattle.tiles_bitmap.specs.Places.{Among}
 
 -- editions, packets that were handed down and sessions that began stay where they are, checks that
--- passed stay, and one more
--- event has happened
+-- passed stay, and one more event has happened
 pub record Grown (h new : History) : Type 0 where
   pub stands : (i : ℕ) (edition : EditionData) → slice_get h.world.chain i ≡ Some edition
       → slice_get new.world.chain i ≡ Some edition

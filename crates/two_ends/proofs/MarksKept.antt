@@ -1,6 +1,5 @@
 -- Every event keeps that each frame carries a packet that was handed down, as it was written then,
--- or is a message of a session of
--- an end, and that each session carries such a packet.
+-- or is a message of a session of an end, and that each session carries such a packet.
 use Rattle.std.proofs.Common.{◌≡◌, ℕ, suc, ◌+◌, ◌<◌, Bool, List, [], ◌∷◌, ◌++◌, length, Some}
 use Rattle.std.proofs.Common.{IsSomeAnd, slice_get, refl, sym, subst, ◌∙◌, arith}
 use Rattle.std.specs.List.{AllByRecursion}

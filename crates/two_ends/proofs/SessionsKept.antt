@@ -1,6 +1,5 @@
 -- What an end keeps of its sessions has the same form after each step: at most one session, by the
--- end's own key, and a receiver
--- for each of the keys of the other end. What its choice promises.
+-- end's own key, and a receiver for each of the keys of the other end. What its choice promises.
 use Rattle.std.proofs.Common.{◌≡◌, ℕ, Bool, true, false, List, [], ◌++◌, Option, Some, None, Result}
 use Rattle.std.proofs.Common.{Ok, Err, refl, sym, ap, subst, ◌∙◌}
 use Rattle.schc_ids.specs.declared.ends.EndParams.{EndParams}

@@ -1,6 +1,5 @@
 -- Every event keeps that what a whole frame handed up was handed down, and that what a session
--- handed up was read from an assembly
--- whose check passed.
+-- handed up was read from an assembly whose check passed.
 use Rattle.std.proofs.Common.{◌≡◌, ◌⊎◌, ℕ, zero, suc, ◌<◌, ◌≤◌, Bool, true, false, List, [], ◌∷◌}
 use Rattle.std.proofs.Common.{◌++◌, length, Option, Some, None, option_map, Result, Ok, Err}
 use Rattle.std.proofs.Common.{IsSomeAnd, slice_get, refl, sym, ap, subst, ◌∙◌, inl, inr}

@@ -16,6 +16,7 @@ use Rattle.schc_ids.specs.declared.phases.ReceiverPhase.TheVariants as phase
 use Rattle.editions.specs.Data.{EditionData}
 use Rattle.tiles_bitmap.specs.Tiles.{tiles}
 use Rattle.packer.specs.Laws.{RestoresUnder}
+use Rattle.packer.specs.Schc.{IsChosen}
 use Rattle.packer.specs.declared.packing.Packed.{Packed}
 use Rattle.event_data.specs.Events.{Event, Down, Slot, Deliver}
 use Rattle.event_data.specs.declared.outcomes.Accepted.{Accepted}
@@ -47,8 +48,7 @@ abbrev pub key_of_end : WorldData → Role → Key
 key_of_end w role = sent_key role (own_key (end_of w role))
 
 -- A clean start for this end: neither end has a frame due, and nothing waits at this end. No
--- session of it is open or quiet, and
--- the receiver of its key is empty
+-- session of it is open or quiet, and the receiver of its key is empty
 pub record IsClean (w : WorldData) (role : Role) : Type 0 where
   pub nothing_due : HasNothingDue w
   pub nothing_waits : (end_of w role).queue ≡ []
@@ -100,8 +100,8 @@ abbrev pub needed_rounds : WorldData → Role → List ℕ → ℕ
 needed_rounds w role packet = if goes_whole w role packet then 1 else tile_count w role packet + 1
 
 -- exactly one more packet was handed up, from the direction of this one that was handed down, and
--- under its RuleID: it is what
--- the other end restores of it under the rule, it is bytes, and its label leads to it
+-- under its RuleID: it is what the other end restores of it under the rule, it is bytes, and its
+-- label leads to it
 pub record BringsUp (before after : Logs) (chain : List EditionData) (down : HandedDown) : Type 0
   where
     pub entry : HandedUp
@@ -123,8 +123,7 @@ good_end mode.AckAlways = Delivered
 good_end mode.AckOnError = Delivered
 
 -- exactly one more session began: by this key, with these bits, and for the packet that was handed
--- down with this index. Exactly
--- one more report was made: that this session went well
+-- down with this index. Exactly one more report was made: that this session went well
 pub record IsReported (before after : Logs) (key : Key) (bits : List Bool) (index : ℕ) : Type 0
   where
     pub began : Began
@@ -147,10 +146,13 @@ WentAs true before after key bits index = (after.begins ≡ before.begins)
 WentAs false before after key bits index = IsReported before after key bits index
 
 -- a packet that was handed down at an end was carried, from the history before to the one after: it
--- was handed up once, where it
--- went as a session this was reported, and then neither end has a frame due
+-- was written under the rule that is chosen, and handed up once, where it went as a session this
+-- was reported, and then neither end has a frame due
 pub record IsCarried (before after : History) (role : Role) (packet : List ℕ)
     (accepted : Accepted) : Type 0 where
+  pub chosen :
+      IsChosen (end_of before.world role).writes (end_of before.world role).params.iids
+      (sent_direction role) packet accepted.rule_id (written_at before.world role packet).bits
   pub arrives :
       BringsUp before.logs after.logs before.world.chain
       (handed_down before.place (sent_direction role) packet accepted)
@@ -161,8 +163,7 @@ pub record IsCarried (before after : History) (role : Role) (packet : List ℕ)
   pub at_rest : HasNothingDue after.world
 
 -- a packet that is handed down at a clean start, and taken, is carried by so many plain rounds or
--- more, where the other end knows
--- the edition with which it was written, or a later one
+-- more, where the other end knows the edition with which it was written, or a later one
 abbrev pub Arrives : History → Role → List ℕ → Type 0
 Arrives h role packet =
     (accepted : Accepted) → IsClean h.world role →

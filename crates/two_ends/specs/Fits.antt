@@ -1,6 +1,5 @@
 -- The ranges in which the laws speak: each number and byte is one of its type, where of the rules
--- of a publication nothing
--- is asked, and the parameters are within their limits.
+-- of a publication nothing is asked, and the parameters are within their limits.
 use Rattle.std.specs.Prelude.{◌^◌, ◌<◌, List}
 use Rattle.std.specs.List.{AllByRecursion}
 use Rattle.schc_bits.specs.Bits.{AreBytes}

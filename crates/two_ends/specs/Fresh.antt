@@ -1,6 +1,5 @@
 -- Runs in which sessions don't meet what is left of earlier ones, runs in which a check tells right
--- from wrong, and what a report
--- of delivery says then.
+-- from wrong, and what a report of delivery says then.
 use Rattle.std.specs.Prelude.{◌≡◌, ◌<◌, Bool, List, Some}
 use Rattle.std.specs.List.{AllByRecursion}
 use Rattle.schc_ids.specs.declared.ends.EndParams.{EndParams}
@@ -29,8 +28,7 @@ IsHonest params h =
     → check.it.assembly ≡ padded_session params began
 
 -- for each key: a fragment or an ACK is delivered only while no later session of the key has begun,
--- and where a session begins,
--- the receiver of its key is empty, so that no answer is due
+-- and where a session begins, the receiver of its key is empty, so that no answer is due
 abbrev pub IsFresh : EndParams → List Event → Type 0
 IsFresh params events = (key : Key)
     → AreFresh (lane_params params key) (lane_run key (start params) events)

@@ -24,8 +24,8 @@ use Rattle.two_ends.specs.Labels.{Labels, Mark, WholeFrame, MessageOf}
 use Rattle.two_ends.specs.World.{WorldData, end_of, numbered}
 
 -- What an end gives at its slot: the answer of a receiver, the message of a session, the first
--- message of a session that begins
--- with a packet, the packet whole, or nothing. A session is as it was before the message.
+-- message of a session that begins with a packet, the packet whole, or nothing. A session is as it
+-- was before the message.
 pub data Given : Type 0 where
   Answers : SessionKey → Reception → List ℕ → Given
   Goes : SessionKey → Session → List ℕ → Given
@@ -58,10 +58,9 @@ given_by end (Begins form) = begun end.sessions form
 given_by end Rests = NoFrame
 
 -- a packet was handed down and taken; an end has given this at its slot; a frame arrives that
--- carries whole the packet of this
--- place, or a fragment arrives at the receiver of its key, or an answer at the sender; a tick
--- passes; an end gives up the session
--- that it sends by this key. All else is nothing to the logs
+-- carries whole the packet of this place, or a fragment arrives at the receiver of its key, or an
+-- answer at the sender; a tick passes; an end gives up the session that it sends by this key. All
+-- else is nothing to the logs
 pub data Happening : Type 0 where
   Nothing : Happening
   Waits : Role → List ℕ → Accepted → Happening

@@ -153,8 +153,7 @@ begins_after h happening = h.logs.begins
 -- Fragments that arrive.
 
 -- what a fragment adds: what the receiver keeps of sessions, the check that is made, the check that
--- passed, and the session of
--- its All-1
+-- passed, and the session of its All-1
 pub record Came : Type 0 where
   pub held : Held
   pub checks : List Check

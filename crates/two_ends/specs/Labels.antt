@@ -1,6 +1,5 @@
 -- Labels say what a packet that waits, a frame that was sent and a receiver carry. They stand
--- beside the world, and no outcome
--- depends on them.
+-- beside the world, and no outcome depends on them.
 use Rattle.std.specs.Prelude.{ℕ, List, [], ◌∷◌, Option, Some, None, unwrap_or}
 use Rattle.schc_ids.specs.PerDirection.{PerDirection, at_direction, put_direction}
 use Rattle.schc_ids.specs.PerRole.{PerRole}
@@ -35,8 +34,8 @@ abbrev pub nothing_held : Held
 nothing_held = record { last = None; kept = None }
 
 -- for each packet that waits at an end its place among those that were handed down, for each frame
--- that was sent what it
--- carries, and for each receiver what it keeps, by the direction of the fragments and by their key
+-- that was sent what it carries, and for each receiver what it keeps, by the direction of the
+-- fragments and by their key
 pub record Labels : Type 0 where
   pub queued : PerRole (List ℕ)
   pub sent : PerDirection (List Mark)

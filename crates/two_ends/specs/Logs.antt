@@ -1,6 +1,5 @@
 -- What came to pass: logs of packets that were handed down and up, and of sessions. They stand
--- beside the world, and no outcome
--- depends on them.
+-- beside the world, and no outcome depends on them.
 use Rattle.std.specs.Prelude.{ℕ, List, [], ◌∷◌, Option, Some, None}
 use Rattle.std.specs.List.{flat_map}
 use Rattle.schc_ids.specs.declared.ends.Direction.{Direction}
@@ -11,8 +10,8 @@ use Rattle.two_ends.specs.Keys.{Key, Keyed, same_key, piece}
 use Rattle.two_ends.specs.Labels.{Label}
 
 -- a packet that was handed down and taken: by which event (counted from 0), for which direction,
--- and how it goes: with
--- which edition of rules it is written, under which RuleID, and in how many bits
+-- and how it goes: with which edition of rules it is written, under which RuleID, and in how many
+-- bits
 pub record HandedDown : Type 0 where
   pub place : ℕ
   pub direction : Direction
@@ -20,9 +19,8 @@ pub record HandedDown : Type 0 where
   pub accepted : Accepted
 
 -- a packet that was handed up: by which event (counted from 0), from which direction, with which
--- edition of rules
--- and under which RuleID it was read, and the label of the whole frame, or of the All-1 whose check
--- passed
+-- edition of rules and under which RuleID it was read, and the label of the whole frame, or of the
+-- All-1 whose check passed
 pub record HandedUp : Type 0 where
   pub place : ℕ
   pub direction : Direction
@@ -32,16 +30,15 @@ pub record HandedUp : Type 0 where
   pub label : Option Label
 
 -- a session that began, and the place of the packet that it carries among those that were handed
--- down. The session is known by
--- its own place among those that began, also where numbers of sessions stay at the greatest
+-- down. The session is known by its own place among those that began, also where numbers of
+-- sessions stay at the greatest
 pub record Began : Type 0 where
   pub key : Key
   pub it : Begun
   pub down : ℕ
 
 -- everything that was handed down and up, and of sessions each that began, each check that was
--- made, each that passed, and each
--- report; the first first
+-- made, each that passed, and each report; the first first
 pub record Logs : Type 0 where
   pub downs : List HandedDown
   pub ups : List HandedUp

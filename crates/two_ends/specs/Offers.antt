@@ -13,8 +13,8 @@ use Rattle.two_ends.specs.History.{start, run}
 use Rattle.two_ends.specs.Clean.{outcome}
 
 -- An end adopts the edition of the chain with this number where it is above that of the edition
--- that it knows. The answer
--- is never that the edition diverges: the editions of the one chain follow one another.
+-- that it knows. The answer is never that the edition diverges: the editions of the one chain
+-- follow one another.
 pub record IsOfferedInChain (w : WorldData) (role : Role) (number : ℕ) : Type 0 where
   pub adopts :
       (edition : EditionData) → slice_get w.chain number ≡ Some edition

@@ -17,14 +17,11 @@ use Rattle.two_ends.specs.Fresh.{IsHonest, IsFresh, IsEarned}
 use Rattle.two_ends.specs.History.{History, start, run}
 
 -- The packet that was handed up is this one that was handed down: earlier, and in the same
--- direction. It was written with an
--- edition of the chain, under the RuleID that is chosen there, in as many bits as were said. It was
--- read under that RuleID
--- with an edition of the chain that has the same rule there, if it is a rule's. And it is the
--- packet that the other end
--- restores under that rule: the packet itself, but for the fields that the rule drops. Both packets
--- are bytes, so that there
--- is one such packet.
+-- direction. It was written with an edition of the chain, under the RuleID that is chosen there, in
+-- as many bits as were said. It was read under that RuleID with an edition of the chain that has
+-- the same rule there, if it is a rule's. And it is the packet that the other end restores under
+-- that rule: the packet itself, but for the fields that the rule drops. Both packets are bytes, so
+-- that there is one such packet.
 pub record IsHandedDownAs (chain : List EditionData) (iids : Iids) (up : HandedUp)
     (down : HandedDown) : Type 0 where
   pub earlier : down.place < up.place
@@ -64,18 +61,16 @@ abbrev pub IsWhole : HandedUp → Type 0
 IsWhole up = (place : ℕ) × (up.label ≡ Some (Whole place))
 
 -- the editions of the world are one chain, each with rules that are admitted and in ascending order
--- of RuleID, and with them
--- each packet that was handed up is one that was handed down
+-- of RuleID, and with them each packet that was handed up is one that was handed down
 pub record IsSafe (iids : Iids) (h : History) : Type 0 where
   pub one_chain : IsChain h.world.chain
   pub sound : AllByRecursion IsSound h.world.chain
   pub handed_down : AllByRecursion (IsLed iids h) h.logs.ups
 
 -- The headline, in one world after its events: the editions are one chain of sound ones; each
--- packet that was handed up from a
--- whole frame is one that was handed down; where no wrong assembly has the RCS of a session, so is
--- each; and in fresh runs a
--- session is reported delivered only after it was put together
+-- packet that was handed up from a whole frame is one that was handed down; where no wrong assembly
+-- has the RCS of a session, so is each; and in fresh runs a session is reported delivered only
+-- after it was put together
 pub record IsHeadline (params : EndParams) (events : List Event) (h : History) : Type 0 where
   pub one_chain : IsChain h.world.chain
   pub sound : AllByRecursion IsSound h.world.chain
@@ -84,9 +79,8 @@ pub record IsHeadline (params : EndParams) (events : List Event) (h : History) :
   pub earned : IsHonest params h → IsFresh params events → IsEarned params h
 
 -- so it is after every list of events, whatever was lost, repeated or reordered on the link,
--- whatever timers ran out or was given
--- up, and whatever was published, offered and allowed. Each front of a list is a list, so it is so
--- after each event
+-- whatever timers ran out or was given up, and whatever was published, offered and allowed. Each
+-- front of a list is a list, so it is so after each event
 abbrev pub Headline : Type 0
 Headline = (params : EndParams) (events : List Event) → Fits params events
     → IsHeadline params events (run events (start params))

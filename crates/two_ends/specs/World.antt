@@ -1,6 +1,5 @@
 -- Both ends of one link, the editions of rules that were published, and every frame that was ever
--- sent: one event at a
--- time, and its outcome.
+-- sent: one event at a time, and its outcome.
 use Rattle.std.specs.Prelude.{ℕ, zero, suc, ◌+◌, ◌-◌, List, [], ◌∷◌, ◌++◌, length, Option, Some}
 use Rattle.std.specs.Prelude.{None, unwrap_or, Result, Ok, Err, slice_get}
 use Rattle.schc_ids.specs.Ends.{sent_direction}
@@ -33,8 +32,8 @@ use Rattle.end_core.specs.Events as at_end
 use Rattle.end_core.specs.EndStep.{end_step}
 
 -- both ends, the chain of editions, and all frames that were ever sent in each direction, each the
--- first first. The
--- chain begins with the empty edition 0, so that an edition stands at the place of its number
+-- first first. The chain begins with the empty edition 0, so that an edition stands at the place of
+-- its number
 pub record WorldData : Type 0 where
   pub ends : PerRole EndData
   pub chain : List EditionData
