@@ -16,8 +16,8 @@ StandsBefore at other =
     ⊎ ((rank_of at.name ≡ rank_of other.name) × (at.position < other.position))
 
 -- fields as a message has them: of CoAP, in packet order, so each once, with their widths; a token
--- has the bits that the
--- token length field says, an option's value is whole bytes, at most 269 + 65,535 of them
+-- has the bits that the token length field says, an option's value is whole bytes, at most 269 +
+-- 65,535 of them
 pub record AreCoapFields (fields : List FieldValue) : Type 0 where
   pub of_coap : (f : FieldValue) → Contains fields f → layer_of f.at.name ≡ layer.Coap
   pub in_order : AllPairs (λ f g. StandsBefore f.at g.at) fields

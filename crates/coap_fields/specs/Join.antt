@@ -47,8 +47,7 @@ can_follow rank position f =
     f.at.name f.value
 
 -- each field of the list, in the list's order: a message can have it, it stands after the field
--- before it, and has a right
--- size where it is an option
+-- before it, and has a right size where it is an option
 abbrev pub order : ℕ → ℕ → List FieldValue → List (Bool × JoinFault)
 order rank position [] = []
 order rank position (f ∷ fields) =

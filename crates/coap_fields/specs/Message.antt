@@ -19,14 +19,12 @@ pub record Message : Type 0 where
   pub payload : List ℕ
 
 -- which one an option is among those of its number, counted from 1, where `before` and `place` are
--- the number and the
--- place of the option before it. In front of the first option they are 0 and 0
+-- the number and the place of the option before it. In front of the first option they are 0 and 0
 abbrev pub next_place : ℕ → ℕ → ℕ → ℕ
 next_place before place number = if number == before then place + 1 else 1
 
 -- an option that can stand after one of this number and place: numbers ascend, are at most 65,535,
--- and none stands more
--- than 65,535 times; a value has at most 269 + 65,535 bytes
+-- and none stands more than 65,535 times; a value has at most 269 + 65,535 bytes
 pub record IsOption (before : ℕ) (place : ℕ) (o : OptionData) : Type 0 where
   pub ascends : before ≤ o.number
   pub number : o.number ≤ 65535

@@ -20,8 +20,7 @@ two_more (high ∷ low ∷ rest) = Some (269 + 256 * high + low, rest)
 two_more _ = None
 
 -- the number that four bits, below 15, and the bytes after them stand for, and the bytes that are
--- left; none where bytes
--- lack
+-- left; none where bytes lack
 unfoldable pub extended : ℕ → List ℕ → Option (ℕ × List ℕ)
 extended bits bytes =
     if nat_lt bits 13 then Some (bits, bytes)
@@ -52,8 +51,8 @@ numbered_at size here before place bits delta bytes =
     else then_number size (extended bits bytes) (value_at size (before + delta))
 
 -- the option that begins with the byte `first`, at the byte `here` of a message of `size` bytes,
--- after an option of this
--- number and place, and the bytes that are left; or the byte at which no reading goes on
+-- after an option of this number and place, and the bytes that are left; or the byte at which no
+-- reading goes on
 unfoldable pub option_at : ℕ → ℕ → ℕ → ℕ → ℕ → List ℕ → Result (OptionData × List ℕ) ℕ
 option_at size here before place first bytes =
     if (first / 16 == 15) || (first % 16 == 15) then Err here
@@ -131,8 +130,7 @@ split_of size (Ok m) =
     Ok (record { fields = fields_of_message m; payload_from = size - length m.payload })
 
 -- the fields of the message that the bytes spell and the byte at which its payload begins, or the
--- first byte at which no
--- reading goes on
+-- first byte at which no reading goes on
 unfoldable pub message_in : List ℕ → Result SplitData ℕ
 message_in bytes = split_of (length bytes) (read_message bytes)
 

@@ -48,9 +48,8 @@ pub record DoBytesLack (before : ℕ) (place : ℕ) (first : ℕ) (bytes : List 
   pub lack : length bytes < bytes_of_option first bytes
 
 -- what begins with the byte `first`, at the byte `here` of `size` bytes, is no option after one of
--- this number and place, and
--- is refused at this byte: at its first byte for four bits of 15 or for its number, at the end
--- where bytes lack
+-- this number and place, and is refused at this byte: at its first byte for four bits of 15 or for
+-- its number, at the end where bytes lack
 abbrev pub OptionStops : ℕ → ℕ → ℕ → ℕ → ℕ → List ℕ → ℕ → Type 0
 OptionStops size here before place first bytes stop =
     ((has_four_ones first ≡ true) × (stop ≡ here))
@@ -88,8 +87,7 @@ pub record OptionsStop (size : ℕ) (before : ℕ) (place : ℕ) (bytes : List �
         stop
 
 -- after the first byte of a message, with a right version and token length: bytes of the header or
--- the token lack, or what
--- stands after them is refused
+-- the token lack, or what stands after them is refused
 abbrev pub HeaderStops : ℕ → ℕ → List ℕ → ℕ → Type 0
 HeaderStops size first bytes stop =
     ((length bytes < 3 + first % 16) × (stop ≡ size))
@@ -97,10 +95,9 @@ HeaderStops size first bytes stop =
     × OptionsStop size 0 0 (drop (first % 16) (drop 3 bytes)) stop)
 
 -- the bytes stop to be a message at this byte: the first for another version than 1 or a token of
--- more than 8 bytes, the
--- first byte of an option for four bits of 15, for a number above 65,535, or for one that stands
--- there for the 65,536th
--- time, and the end where bytes lack or nothing follows the marker
+-- more than 8 bytes, the first byte of an option for four bits of 15, for a number above 65,535, or
+-- for one that stands there for the 65,536th time, and the end where bytes lack or nothing follows
+-- the marker
 abbrev pub StopsAt : List ℕ → ℕ → Type 0
 StopsAt [] stop = stop ≡ 0
 StopsAt (first ∷ bytes) stop =

@@ -1,4 +1,8 @@
 //! CoAP messages (RFC 7252) as fields and back.
+//!
+//! [`split`] gives the fields of a message and where its payload begins, as a [`Split`]; [`join`]
+//! makes the message again. What is no message has a [`SplitFault`], and what makes none a
+//! [`JoinFault`].
 #![tactic(auto)]
 
 mod join_conditions;

@@ -1,4 +1,7 @@
-//! Writes the compression residue of a packet's fields (RFC 8724, sections 7.2 and 7.4).
+//! The compression residue of a packet's fields (RFC 8724, sections 7.2 and 7.4), written.
+//!
+//! [`residue`] puts the residue under an [`Admitted`](rule_model::Admitted) rule behind other bits,
+//! and [`residue_len`] says how long it is.
 #![tactic(auto)]
 
 mod length;

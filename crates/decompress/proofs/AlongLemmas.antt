@@ -169,8 +169,7 @@ SentBy-token a b DevIid kind operator targets value h k = k
 SentBy-token a b AppIid kind operator targets value h k = k
 
 -- what holds of each entry of an admitted rule, as far as reading needs it: beside the action's,
--- only a token has the
--- token's length
+-- only a token has the token's length
 pub record IsSound (e : EntryData) : Type 0 where
   pub regular : IsRegular e
   pub token : e.length ≡ TokenLength → e.name ≡ CoapToken

@@ -118,8 +118,7 @@ then_entry number (Err fault) next = Err (BadResidue number fault)
 then_entry number (Ok read) next = next read.0 read.1
 
 -- the entries that are used in the direction are read in the rule's order, where `before` are the
--- fields that are restored
--- so far. Entries are numbered in the rule's list, used or not
+-- fields that are restored so far. Entries are numbered in the rule's list, used or not
 abbrev pub restore_from : Iids → Direction → ℕ → List FieldValue → List EntryData → List Bool
     → Result (List FieldValue × List Bool) UnpackFault
 restore_from iids direction number before [] bits = Ok (before, bits)

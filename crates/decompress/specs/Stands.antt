@@ -11,10 +11,8 @@ use Rattle.rule_model.specs.Residue.{residue_of, restored_fields, IsSized}
 use Rattle.decompress.specs.Reading.{restore_at}
 
 -- the residue of sized fields stands in front of the bits, and `rest` after it. The fields are
--- those that the rule
--- restores, one for each entry that is used in the direction, in the rule's order: what isn't sent
--- of them is as the other
--- end makes it
+-- those that the rule restores, one for each entry that is used in the direction, in the rule's
+-- order: what isn't sent of them is as the other end makes it
 pub record Stands (rule : RuleData) (iids : Iids) (direction : Direction) (fields : List FieldValue)
     (bits rest : List Bool) : Type 0 where
   pub sized : IsSized rule direction fields
@@ -27,8 +25,7 @@ NoneStands rule iids direction bits = (fields : List FieldValue) (rest : List Bo
     → ¬ Stands rule iids direction fields bits rest
 
 -- what is written of the fields of a packet that an admitted rule matches is read back, whatever
--- follows: each field as the
--- other end restores it
+-- follows: each field as the other end restores it
 abbrev pub ReadsBack : Type 0
 ReadsBack =
     (rule : RuleData) (iids : Iids) (direction : Direction) (fields : List FieldValue)

@@ -71,8 +71,7 @@ lookup-below x (y ∷ ys) id asc h =
     (lookup-below y ys id (IsAscending-tail x (y ∷ ys) asc) (omega arith))
 
 -- a rule of an ascending list is what is listed under its RuleID, and where the rules before it are
--- kept, each lower
--- RuleID is
+-- kept, each lower RuleID is
 pub lowest : (new old : List Listed) (i : ℕ) (was : Listed) → slice_get old i ≡ Some was
     → IsAscending old → AreKept new (take i old) → (lookup old was.rule.id ≡ Some was)
     × ((lower : ℕ) → lower < was.rule.id → KeepsId old new lower)

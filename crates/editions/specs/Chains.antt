@@ -23,8 +23,7 @@ pub record IsEdition (edition : EditionData) : Type 0 where
   pub ends_chain : EndsChain edition
 
 -- In one chain, of any two editions the later one has each RuleID of the earlier one with the same
--- rule, and has it
--- retired where the earlier one has.
+-- rule, and has it retired where the earlier one has.
 abbrev pub OneMeaning : Type 0
 OneMeaning =
     (chain : List EditionData) → IsChain chain → (i j : ℕ) (earlier later : EditionData) → i ≤ j

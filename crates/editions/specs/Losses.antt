@@ -60,8 +60,7 @@ IsLowestLoss old new id loss = LosesId old new id loss
     × ((lower : ℕ) → lower < id → KeepsId old new lower)
 
 -- the RuleID is listed in the one, and the other lacks it, lists it with another rule, or lists it
--- as live where it is
--- retired in the one
+-- as live where it is retired in the one
 abbrev pub DivergesAt : List Listed → List Listed → ℕ → Type 0
 DivergesAt these those id =
     IsSomeAnd (lookup these id)

@@ -25,8 +25,7 @@ same_stack stack.IpUdpCoap stack.IpUdpCoap = true
 same_stack _ _ = false
 
 -- the key field of a stack: the next header of IPv6 (RFC 8200, section 3) where there is no UDP,
--- and otherwise the
--- application's port
+-- and otherwise the application's port
 abbrev pub key_field : Stack → FieldName
 key_field stack.Ip = field.IpNextHeader
 key_field stack.IpUdp = field.UdpAppPort

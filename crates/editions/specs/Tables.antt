@@ -37,8 +37,7 @@ IsIndexOf rules index =
     → ids_in (table_of index direction headers) key ≡ suspects rules direction headers key
 
 -- what an edition of the program keeps: it is the last one of a chain, its rules are admitted, and
--- the tables have their
--- suspects
+-- the tables have their suspects
 pub record KeepsEdition (edition : EditionData) (index : Index) : Type 0 where
   pub is_edition : IsEdition edition
   pub admitted : AreAdmitted edition.rules

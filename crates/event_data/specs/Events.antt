@@ -9,11 +9,9 @@ use Rattle.event_data.specs.declared.events.WorldEvent.{WorldEvent}
 use Rattle.event_data.specs.declared.events.WorldEvent.TheVariants as code
 
 -- an event: a packet is handed down at an end, an end may send one frame, the frame that was sent
--- as this one in the
--- direction, counted from 1, arrives at the other end, a tick passes at these ends, an end gives up
--- the session that it
--- sends, an edition of rules is published, an end is offered the edition with this number, or is
--- allowed to write with it
+-- as this one in the direction, counted from 1, arrives at the other end, a tick passes at these
+-- ends, an end gives up the session that it sends, an edition of rules is published, an end is
+-- offered the edition with this number, or is allowed to write with it
 pub data Event : Type 0 where
   Down : Role → List ℕ → Event
   Slot : Role → Event
@@ -36,8 +34,7 @@ view_event (code.Offer role number) = Offer role number
 view_event (code.Allow role number) = Allow role number
 
 -- an event that hands down bytes, if it hands down a packet: of the ranges of its numbers and bytes
--- this is all that matters
--- for what is handed up
+-- this is all that matters for what is handed up
 abbrev pub HandsBytes : Event → Type 0
 HandsBytes (Down role packet) = AreBytes packet
 HandsBytes event = Unit {0}

@@ -1,5 +1,9 @@
-//! What happens to the two ends of a link and what they answer: frames, events and their outcomes.
-//! Plain data.
+//! What happens to the two ends of a link, and what they answer. Plain data.
+//!
+//! A [`WorldEvent`] is what can happen: to an end, to the network, to the rules. A [`Line`] is what
+//! came of it, and a [`StepFault`] why it couldn't happen. A [`Frame`] is what goes over the link,
+//! and a [`HandUp`] a packet that came through; an end answers with [`Accepted`], [`Emitted`],
+//! [`Taken`] and [`Offered`].
 #![tactic(auto)]
 
 mod events;

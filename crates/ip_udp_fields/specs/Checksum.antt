@@ -10,8 +10,7 @@ words (last ∷ []) = last * 256 ∷ []
 words (high ∷ low ∷ bytes) = (high * 256 + low) ∷ words bytes
 
 -- the ones' complement sum of 16-bit words whose sum is `total`: that modulo 2^16 - 1, where only a
--- sum of nothing but
--- zeros is written as 0, and another multiple of 2^16 - 1 as 2^16 - 1
+-- sum of nothing but zeros is written as 0, and another multiple of 2^16 - 1 as 2^16 - 1
 abbrev pub ones_sum : ℕ → ℕ
 ones_sum total = if total == 0 then 0 else (total - 1) % (2 ^ 16 - 1) + 1
 
@@ -21,8 +20,7 @@ four_bytes number =
     number / 2 ^ 24 % 256 ∷ number / 2 ^ 16 % 256 ∷ number / 2 ^ 8 % 256 ∷ number % 256 ∷ []
 
 -- the source address, the destination address, the length of the UDP header and data in 32 bits, 24
--- zero bits, and the
--- next header, 17 (RFC 8200, section 8.1)
+-- zero bits, and the next header, 17 (RFC 8200, section 8.1)
 abbrev pub pseudo_header : List ℕ → List ℕ
 pseudo_header packet =
     take 32 (drop 8 packet) ++ (four_bytes (length packet - 40) ++ (0 ∷ 0 ∷ 0 ∷ 17 ∷ []))

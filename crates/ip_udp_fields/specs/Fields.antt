@@ -34,16 +34,14 @@ abbrev pub has_ipv6_header : List ℕ → Bool
 has_ipv6_header packet = nat_le 40 (length packet) && number_in 0 4 packet == 6
 
 -- an IPv6 packet: the version is 6, and the payload length is the number of the bytes after the
--- header
--- (RFC 8200, section 3)
+-- header (RFC 8200, section 3)
 pub record IsIpv6 (packet : List ℕ) : Type 0 where
   pub header : 40 ≤ length packet
   pub version : number_in 0 4 packet ≡ 6
   pub payload_length : number_in 32 16 packet + 40 ≡ length packet
 
 -- an IPv6 packet whose payload is a UDP datagram: the next header is 17 (RFC 8200, section 3), and
--- the UDP length is the
--- number of the datagram's bytes (RFC 768)
+-- the UDP length is the number of the datagram's bytes (RFC 768)
 pub record IsUdp (packet : List ℕ) : Type 0 where
   pub ipv6 : IsIpv6 packet
   pub next_header : number_in 48 8 packet ≡ 17

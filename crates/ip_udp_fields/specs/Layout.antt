@@ -23,8 +23,7 @@ header_size stack.Ip = 40
 header_size _ = 48
 
 -- the device's one of two places, that of a source and that of a destination: on the way up the
--- device is the source,
--- on the way down it is the destination
+-- device is the source, on the way down it is the destination
 abbrev pub device_place : Direction → ℕ → ℕ → ℕ
 device_place Up source destination = source
 device_place Down source destination = destination

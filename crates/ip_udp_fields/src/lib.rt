@@ -1,5 +1,9 @@
 //! The fields of IPv6 and UDP headers (RFC 8200, RFC 768): packets to fields and back, and the UDP
 //! checksum.
+//!
+//! [`split`] gives the fields of a packet and where its payload begins, as a [`Split`]; [`join`]
+//! makes the packet again. What is no packet has a [`SplitFault`], and what makes none a
+//! [`JoinFault`].
 #![tactic(auto)]
 
 mod joining;

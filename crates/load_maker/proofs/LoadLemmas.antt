@@ -193,8 +193,8 @@ payload-pushed front items more draw i byte before pushed is =
     rw (payload-more draw i, pushed, before, is)
     (append_assoc front (payload draw i) (((draw + i) % 256) ∷ []))
 
--- with the slot and the arrival of the next frame behind them, the events told
--- and those of the frames still to go up are the same as before
+-- with the slot and the arrival of the next frame behind them, the events told and those of the
+-- frames still to go up are the same as before
 pub frames-pushed : (device number k count : ℕ) (start now mid end : List ScriptEventData)
     → k < count
     → now ++ frames_up device (number + k) (count - k) ≡ start ++ frames_up device number count

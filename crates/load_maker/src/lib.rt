@@ -1,5 +1,5 @@
-//! The load of a number: a script of many devices, each of which hands down three packets that it
-//! sends up.
+//! The load of a number: a [`Script`](script_lang::Script) of many devices, each of which hands
+//! down three packets that it sends up, as [`make_load`] has it.
 #![tactic(auto)]
 
 mod draws;

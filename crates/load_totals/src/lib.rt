@@ -1,5 +1,7 @@
-//! The numbers of a run: what its lines count, summed by many threads, and the line that is printed
-//! of them.
+//! The numbers of a run, and the line that is printed of them.
+//!
+//! [`Totals`] are what the lines of a run count, summed by many threads, and [`totals_text`] is
+//! their line.
 #![tactic(auto)]
 
 #[cfg(test)]

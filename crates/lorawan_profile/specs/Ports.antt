@@ -22,10 +22,8 @@ use Rattle.lorawan_profile.specs.declared.ports.PortMeaning.TheVariants.{Fragmen
 use Rattle.lorawan_profile.specs.declared.ports.PortMeaning.TheVariants.{Unknown}
 
 -- the fragments that go by a port, which is their RuleID: 20 is that of fragments up and 21 that of
--- fragments down
--- (RFC 9011, section 5.2), with the modes of sections 5.6.2 and 5.6.3 there. 222 and 223 are this
--- project's own, for
--- fragments that aren't answered
+-- fragments down (RFC 9011, section 5.2), with the modes of sections 5.6.2 and 5.6.3 there. 222 and
+-- 223 are this project's own, for fragments that aren't answered
 unfoldable pub fragments_by : ℕ → Option (Direction × FragMode)
 fragments_by port =
     if port == ack_on_error_port then Some (way.Up, AckOnError)
@@ -35,8 +33,7 @@ fragments_by port =
     else None
 
 -- the answers to fragments of a mode go by the same port (RFC 9011, section 5.2); in No-ACK there
--- are none (RFC 8724,
--- section 8.4.1)
+-- are none (RFC 8724, section 8.4.1)
 abbrev pub answers_in : FragMode → PortMeaning
 answers_in NoAck = Unknown
 answers_in mode = Answers (params_of mode)
@@ -53,8 +50,7 @@ abbrev pub is_application_port : ℕ → Bool
 is_application_port port = not (port == 0) && nat_lt port first_reserved_port
 
 -- by each other port that an application may use comes a whole packet, of which the port is the
--- RuleID (RFC 9011,
--- section 5.1)
+-- RuleID (RFC 9011, section 5.1)
 abbrev pub meaning_from : Role → ℕ → Option (Direction × FragMode) → PortMeaning
 meaning_from role port (Some fragments) = meaning_between role fragments.0 fragments.1
 meaning_from role port None = if is_application_port port then Whole else Unknown
@@ -64,8 +60,7 @@ unfoldable pub meaning_of : Role → ℕ → PortMeaning
 meaning_of role port = meaning_from role port (fragments_by port)
 
 -- the port by which an end sends fragments, and their parameters: a device sends up and a gateway
--- down, with answers or
--- without
+-- down, with answers or without
 abbrev pub sending_of : Role → Bool → ℕ × FragParams
 sending_of Device true = (ack_on_error_port, params_of AckOnError)
 sending_of Device false = (no_ack_up_port, params_of NoAck)

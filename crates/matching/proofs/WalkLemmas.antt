@@ -1,6 +1,5 @@
 -- The test as it is walked holds exactly where the rule matches, for a rule of which no two entries
--- that are used in the
--- direction are of one field.
+-- that are used in the direction are of one field.
 use Rattle.std.specs.Prelude.{ℕ, ◌≡◌, ◌↔◌, ◌⊎◌, ◌+◌, ◌<◌, ◌≤◌, ◌==◌, zero, suc, Bool, true, false}
 use Rattle.std.specs.Prelude.{◌&&◌, ◌||◌, nat_le, if◌then◌else◌, List, [], ◌∷◌, length, get_or}
 use Rattle.std.specs.Prelude.{filter, Option, Some, None, slice_get, Contains}

@@ -38,8 +38,7 @@ field_holds iids computed entries f =
     list_any (λ e. same_field (field_of e) f.at && agrees iids computed e f.value) entries
 
 -- no fewer fields than entries that are used in the direction, and each of these holds. Where there
--- are as many fields,
--- each is then the field of one entry; where there are more, each has to hold
+-- are as many fields, each is then the field of one entry; where there are more, each has to hold
 abbrev pub walk_holds : RuleData → Iids → Direction → List FieldValue → Computed → Bool
 walk_holds rule iids direction fields computed =
     nat_le (length (covered rule direction)) (length fields)

@@ -1,4 +1,7 @@
 //! Whether a rule matches the fields of a packet (RFC 8724 sections 7.2 and 7.3).
+//!
+//! [`matches`] says so of an admitted rule, given the [`Computed`] values of the packet, and
+//! [`operator_holds`] of one matching operator and one value.
 #![tactic(auto)]
 
 mod agreement;

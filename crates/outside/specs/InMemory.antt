@@ -18,8 +18,7 @@ pub record SourceData : Type 0 where
   pub faults : ℕ
 
 -- a sink: the bytes written, how many it can hold, the numbers of the writes that fail, and how
--- many
--- writes and faults there were
+-- many writes and faults there were
 pub record SinkData : Type 0 where
   pub written : List ℕ
   pub capacity : ℕ

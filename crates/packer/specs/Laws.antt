@@ -29,8 +29,7 @@ PacksChosen =
     (packed edition iids direction packet).bits
 
 -- what is read is what the bits say, and all that they say is read, where the options of the rules
--- have numbers and positions
--- of 16 bits. So the bits say at most one packet
+-- have numbers and positions of 16 bits. So the bits say at most one packet
 abbrev pub UnpacksExactly : Type 0
 UnpacksExactly =
     (edition : EditionData) (iids : Iids) (direction : Direction) (bits : List Bool)
@@ -63,8 +62,7 @@ pub record IsReadAs (writer reader : EditionData) (iids : Iids) (direction : Dir
   pub reads : unpacked reader iids direction bits ≡ Ok (record { rule_id = id; packet = restored })
 
 -- a packet that was written with one edition is read with another that has the same rule under its
--- RuleID, with up to 7
--- bits behind it: as the packet that the other end restores
+-- RuleID, with up to 7 bits behind it: as the packet that the other end restores
 abbrev pub ReadsWhatWasWritten : Type 0
 ReadsWhatWasWritten =
     (writer reader : EditionData) (iids : Iids) (direction : Direction) (packet : List ℕ)

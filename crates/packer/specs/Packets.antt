@@ -15,8 +15,7 @@ use Rattle.coap_fields.specs.Fields.{MessageOf}
 use Rattle.coap_fields.specs.Reading.{message_in}
 
 -- a packet whose UDP datagram is a CoAP message (RFC 7252, section 3): these are its fields, those
--- of the message last, and
--- the message's payload begins at this byte
+-- of the message last, and the message's payload begins at this byte
 pub record IsCoapPacket (direction : Direction) (packet : List ℕ) (fields : List FieldValue)
     (payload_from : ℕ) : Type 0 where
   pub message_fields : List FieldValue
@@ -64,8 +63,7 @@ split_of stack.IpUdpCoap direction packet =
     split_message packet (split_headers stack.IpUdp direction packet)
 
 -- what is computed over a packet of the stack as it is: the number of bytes after the IPv6 header,
--- which is that of the
--- UDP datagram too, and the UDP checksum (RFC 8200, section 8.1)
+-- which is that of the UDP datagram too, and the UDP checksum (RFC 8200, section 8.1)
 abbrev pub computed_over : Stack → List ℕ → Computed
 computed_over stack.Ip packet =
     record { payload_length = length packet - 40; udp_length = 0; checksum = 0 }

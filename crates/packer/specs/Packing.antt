@@ -1,6 +1,5 @@
 -- How a packet is written, as a function that computes: of the SCHC packets under the live rules
--- that match the one with the
--- fewest bits, and of several such the one with the lowest RuleID.
+-- that match the one with the fewest bits, and of several such the one with the lowest RuleID.
 use Rattle.std.specs.Prelude.{ℕ, ◌==◌, Bool, ◌&&◌, ◌||◌, if◌then◌else◌, List, [], ◌∷◌, ◌++◌, length}
 use Rattle.std.specs.Prelude.{drop, nat_lt, nat_le, Option, Some, None}
 use Rattle.std.specs.Option.{option_map}

@@ -31,8 +31,7 @@ use Rattle.packer.specs.Unpacking.{wrong_field, filled_headers, body_of, packet_
 use Rattle.packer.specs.Unpacking.{packet_or, reads}
 
 -- the rule reads packets of the direction, and the fields stand in some bits. So for each entry
--- that is used the value of its
--- field has the field's width
+-- that is used the value of its field has the field's width
 pub record AreRestored (rule : RuleData) (direction : Direction) (fields : List FieldValue) : Type 0
   where
     pub reading : reads rule direction ≡ true
@@ -44,8 +43,7 @@ pub record AreRestored (rule : RuleData) (direction : Direction) (fields : List 
         → WidthHolds e.name (value_of fields (field_of e))
 
 -- what is wrong with the headers: the version, with UDP the next header, the number of bytes after
--- the IPv6 header, and the
--- lengths
+-- the IPv6 header, and the lengths
 abbrev pub header_tests : Stack → List FieldValue → ℕ → List (Bool × UnpackFault)
 header_tests of fields size =
     map (λ condition. (condition.0, wrong_field condition.1)) (value_refusals of fields size)
@@ -55,8 +53,8 @@ abbrev pub front_tests : List FieldValue → List (Bool × JoinFault)
 front_tests fields = other_number fields IpVersion 6 ∷ other_number fields IpNextHeader 17 ∷ []
 
 -- with CoAP, the headers in front of the message are tried first, and then the message, but for the
--- sizes of its options: with
--- one that is too long to be spelled, too many bytes follow the IPv6 header
+-- sizes of its options: with one that is too long to be spelled, too many bytes follow the IPv6
+-- header
 abbrev pub message_tests : Stack → List FieldValue → List (Bool × UnpackFault)
 message_tests stack.IpUdpCoap fields =
     map (λ condition. (condition.0, wrong_field condition.1))
@@ -71,8 +69,7 @@ made_tests rule direction fields body =
     (filled_headers rule direction fields (length body)) (length body)
 
 -- the packet of the restored fields and of what follows the headers that stand at fixed places,
--- where neither an operator
--- nor the message fails: or the first fault of the headers
+-- where neither an operator nor the message fails: or the first fault of the headers
 unfoldable pub packet_behind_headers : RuleData → Direction → List FieldValue → List ℕ
     → Result (List ℕ) UnpackFault
 packet_behind_headers rule direction fields body =
@@ -96,8 +93,7 @@ size_fault join.Memory = Memory
 size_fault _ = BadPacket (at_name IpPayloadLength)
 
 -- the fault is that of a packet with too many bytes after its IPv6 header, and the message in it
--- has more than an option's
--- value can have
+-- has more than an option's value can have
 abbrev pub IsTooLong : UnpackFault → ℕ → Type 0
 IsTooLong fault size = (fault ≡ BadPacket (at_name IpPayloadLength)) × (65804 < size)
 
@@ -110,8 +106,7 @@ IsMessageFault fault fields payload =
     × IsTooLong fault (length (message_from fields payload)))
 
 -- an option of a message can have the number, and the position: 16 bits hold them (RFC 7252,
--- section 12.2). So it is for the
--- entries of each rule that can be written
+-- section 12.2). So it is for the entries of each rule that can be written
 abbrev pub is_option_at : FieldName → ℕ → Bool
 is_option_at (CoapOption number) position = nat_le number 65535 && nat_le position 65535
 is_option_at _ position = true

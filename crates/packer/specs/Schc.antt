@@ -27,8 +27,7 @@ pub record MatchesPacket (rule : RuleData) (iids : Iids) (direction : Direction)
   pub matches : Matches rule iids direction fields (computed_over (stack_of rule) packet)
 
 -- the SCHC packet of a packet under a rule: the RuleID in 8 bits, the residue of its fields, and
--- its payload
--- (RFC 8724, section 7.1)
+-- its payload (RFC 8724, section 7.1)
 pub record IsSchcPacket (rule : RuleData) (direction : Direction) (packet : List ℕ)
     (bits : List Bool) : Type 0 where
   pub fields : List FieldValue
@@ -46,9 +45,8 @@ abbrev pub is_computed_checksum : EntryData → Bool
 is_computed_checksum e = same_name e.name UdpChecksum && is_compute e.action
 
 -- the value that the other end has for an entry's field: the target, where the entry ignores the
--- value and sends
--- nothing of it; a computed checksum, as it is for the restored packet; else the value that the
--- packet had
+-- value and sends nothing of it; a computed checksum, as it is for the restored packet; else the
+-- value that the packet had
 abbrev pub kept_value : ℕ → EntryData → List Bool → List Bool
 kept_value checksum e value =
     if is_lossy e.operator e.action then first_target e.targets
@@ -56,8 +54,7 @@ kept_value checksum e value =
     else value
 
 -- the packet that the other end restores: the same fields with the same payload, each dropped field
--- at its target, and
--- then a computed checksum made anew
+-- at its target, and then a computed checksum made anew
 pub record IsRestored (rule : RuleData) (direction : Direction) (packet restored : List ℕ) : Type 0
   where
     pub fields : List FieldValue
@@ -73,8 +70,7 @@ pub record IsRestored (rule : RuleData) (direction : Direction) (packet restored
         (value_of fields (field_of e))
 
 -- The bits are read as the packet, by a rule: it serves the direction and matches the packet, which
--- is its own restored
--- packet, and the bits are its SCHC packet with at most 7 further bits.
+-- is its own restored packet, and the bits are its SCHC packet with at most 7 further bits.
 pub record DecodesBy (rule : RuleData) (iids : Iids) (direction : Direction) (bits : List Bool)
     (packet : List ℕ) : Type 0 where
   pub serving : serves rule direction ≡ true
@@ -94,9 +90,8 @@ pub record DecodesWhole (bits : List Bool) (packet : List ℕ) : Type 0 where
   pub bits_are : bits ≡ uncompressed_packet packet ++ padding
 
 -- The bits are read as the packet, under a RuleID: that of packets that no rule compresses, or that
--- of a rule that the
--- edition lists, live or retired. It speaks of the packet that was there, and not of how it is
--- read.
+-- of a rule that the edition lists, live or retired. It speaks of the packet that was there, and
+-- not of how it is read.
 pub data Decodes (edition : EditionData) (iids : Iids) (direction : Direction) (bits : List Bool)
     (packet : List ℕ) : ℕ → Type 0 where
   whole : AreBytes packet → DecodesWhole bits packet
@@ -124,9 +119,8 @@ IsNoLonger id bits other_id other_bits =
     (length bits < length other_bits) ⊎ ((length bits ≡ length other_bits) × (id ≤ other_id))
 
 -- the RuleID under which the packet is written, and its SCHC packet: of the live rules that match
--- the one with the fewest
--- bits in all, and of several such the one with the lowest RuleID. Where none matches, no rule
--- compresses the packet
+-- the one with the fewest bits in all, and of several such the one with the lowest RuleID. Where
+-- none matches, no rule compresses the packet
 pub data IsChosen (edition : EditionData) (iids : Iids) (direction : Direction)
     (packet : List ℕ) : ℕ → List Bool → Type 0 where
   by_rule :

@@ -1,6 +1,5 @@
 -- How the rule is found under which a packet is written: of each stack that the packet splits as,
--- the rules that it may match
--- are tried.
+-- the rules that it may match are tried.
 use Rattle.std.specs.Prelude.{ℕ, ◌≡◌, ◌-◌, Bool, true, false, if◌then◌else◌, List, [], length, take}
 use Rattle.std.specs.Prelude.{Option, Some, None, Contains}
 use Rattle.schc_ids.specs.declared.ends.Direction.{Direction}

@@ -1,6 +1,5 @@
 -- How bits are read, as a function that computes: the RuleID, the residue, the payload, and what
--- keeps the restored fields from
--- being a packet.
+-- keeps the restored fields from being a packet.
 use Rattle.std.specs.Prelude.{ℕ, ◌+◌, ◌/◌, ◌%◌, ◌==◌, Bool, not, ◌&&◌, ◌||◌, nat_lt, if◌then◌else◌}
 use Rattle.std.specs.Prelude.{List, [], ◌∷◌, ◌++◌, length, take, drop, map, Option, Some, None}
 use Rattle.std.specs.Prelude.{Result, Ok, Err}
@@ -90,9 +89,8 @@ number_faults stack.Ip fields = other_number fields IpVersion 6 ∷ []
 number_faults _ fields = other_number fields IpVersion 6 ∷ other_number fields IpNextHeader 17 ∷ []
 
 -- with CoAP (RFC 7252, section 3): the version is 1, the token length at most 8, the token is there
--- exactly where its length is
--- above 0, and has that length; and the positions of each option, in ascending number, count from 1
--- without a gap
+-- exactly where its length is above 0, and has that length; and the positions of each option, in
+-- ascending number, count from 1 without a gap
 abbrev pub message_faults : Stack → List FieldValue → List (Bool × JoinFault)
 message_faults stack.IpUdpCoap fields =
     message_value_refusals (message_fields fields) ++ gaps 0 0 (message_fields fields)
@@ -116,8 +114,8 @@ value_faults rule direction fields size =
     (filled_headers rule direction fields size) size)
 
 -- in their order, the conditions under which restored fields and a payload make no packet that the
--- rule matches: an operator
--- of an entry that is used, in the rule's order, doesn't hold; or a value isn't what it has to be
+-- rule matches: an operator of an entry that is used, in the rule's order, doesn't hold; or a value
+-- isn't what it has to be
 unfoldable pub packet_faults : RuleData → Direction → List FieldValue → List ℕ
     → List (Bool × UnpackFault)
 packet_faults rule direction fields payload =

@@ -1,4 +1,5 @@
-//! The words that several texts print: bytes, findings, and why bits are no packet.
+//! The words that several texts print, put behind a text: bytes by [`push_bytes`], a finding by
+//! [`push_finding`], and why bits are no packet by [`push_unread`].
 #![tactic(auto)]
 
 #[cfg(test)]

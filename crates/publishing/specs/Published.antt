@@ -1,6 +1,5 @@
 -- What becomes of an edition that is handed in: each rule is admitted, in the list's order, and
--- then the rules follow the
--- edition before.
+-- then the rules follow the edition before.
 use Rattle.std.specs.Prelude.{List, [], ◌∷◌, Option, Some, None, Result, Err, map}
 use Rattle.std.specs.Option.{option_or}
 use Rattle.rule_model.specs.declared.finding.Finding.{Finding}
@@ -34,8 +33,7 @@ unless_refused None answer = answer
 unless_refused (Some finding) answer = Err finding
 
 -- the edition that is made of the one that is handed in, or the first finding: those of its rules,
--- and then what keeps
--- them from following the old edition
+-- and then what keeps them from following the old edition
 unfoldable pub published : EditionData → RawEditionData → Result EditionData Finding
 published old raw =
     unless_refused (first_refusal raw.rules) (followed old raw.number (listed_rules raw.rules))

@@ -1,4 +1,7 @@
 //! The admission check: a rule is admitted exactly where none of the findings holds.
+//!
+//! [`admit`] makes an [`Admitted`](rule_model::Admitted) of a rule, or answers an [`AdmitFault`]
+//! with the first finding.
 #![tactic(auto)]
 
 mod admission;

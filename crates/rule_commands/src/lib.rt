@@ -1,5 +1,7 @@
-//! The commands that read files of rules: which editions of a context can be published, and packets that are
-//! written and read by the last edition of a work file.
+//! The commands that read files of rules, each from a text to an [`Output`].
+//!
+//! [`check`] says which editions of a context can be published; [`pack`] and [`unpack`] write and
+//! read the packets of a work file by its last edition.
 #![tactic(auto)]
 
 mod chains;

@@ -1,4 +1,7 @@
 //! Rules, editions and packets of tests, written down in short.
+//!
+//! A [`Draft`] is an entry, a [`Given`] a rule to be listed, and a [`Sample`] an example rule.
+//! [`edition_of`] makes an edition of such rules; what can't be made has a [`DraftFault`].
 #![tactic(auto)]
 
 mod coap;

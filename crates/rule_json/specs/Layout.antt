@@ -1,6 +1,5 @@
 -- The layout of rule text: what a JSON value means as an entry, a rule or an edition. Members that
--- aren't named here aren't
--- looked at.
+-- aren't named here aren't looked at.
 use Rattle.std.specs.Prelude.{ℕ, ◌^◌, Bool, true, if◌then◌else◌, List, [], Option, Some, None}
 use Rattle.std.specs.Prelude.{codes}
 use Rattle.std.specs.Option.{option_map, option_and_then}

@@ -1,7 +1,7 @@
 //! Rule text: editions, contexts and work as JSON (RFC 8259), read and written.
 //!
 //! [`read_edition`] gives a [`RawEdition`], whose rules aren't checked yet, [`read_context`] a
-//! [`ContextFile`] of devices and editions, [`read_work`] a [`WorkFile`] of an edition and packets.
+//! [`ContextFile`] of devices and editions, [`read_work`] a [`WorkFile`] of editions and packets.
 //! Each says as a [`JsonFault`] what kept it. [`write_edition`] spells an edition that was read.
 //!
 //! ```text

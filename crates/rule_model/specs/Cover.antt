@@ -39,8 +39,7 @@ abbrev pub has_field : RuleData → Direction → FieldName → Bool
 has_field rule direction name = list_any (λ e. same_name e.name name) (covered rule direction)
 
 -- a rule serves a direction where the entries that are used in it hold each field that a packet of
--- its stack
--- always has
+-- its stack always has
 abbrev pub serves : RuleData → Direction → Bool
 serves rule direction = list_all (has_field rule direction) (fields_of_stack (stack_of rule))
 
@@ -64,8 +63,8 @@ computes_checksum rule direction =
     list_any (λ e. same_name e.name UdpChecksum && is_compute e.action) (covered rule direction)
 
 -- the UDP checksum is computed over the field, among those that a rule may drop: parts of the
--- addresses
--- (RFC 8200, section 8.1), ports, and the fields of CoAP, which are the UDP datagram's data
+-- addresses (RFC 8200, section 8.1), ports, and the fields of CoAP, which are the UDP datagram's
+-- data
 abbrev pub is_in_checksum : FieldName → Bool
 is_in_checksum IpDevPrefix = true
 is_in_checksum IpDevIid = true
@@ -83,8 +82,7 @@ lossy_fields rule direction =
     (filter (λ e. covers e.direction direction && is_lossy e.operator e.action) rule.entries)
 
 -- the fields whose value the other end may restore to another one: the lossy ones, and at the end
--- the UDP checksum,
--- where it is computed over one of them
+-- the UDP checksum, where it is computed over one of them
 abbrev pub dropped_fields : RuleData → Direction → List FieldAt
 dropped_fields rule direction =
     if computes_checksum rule direction && list_any (λ f. is_in_checksum f.name)

@@ -146,8 +146,7 @@ has_length Variable target = is_bytes 0 1500 target
 has_length TokenLength target = is_bytes 1 8 target
 
 -- a target of the IPv6 version is 6, of the CoAP version 1, of the token length at most 8, of the
--- next header in a
--- stack with UDP 17
+-- next header in a stack with UDP 17
 abbrev pub has_value : Stack → FieldName → List Bool → Bool
 has_value stack IpVersion target = bits_value target == 6
 has_value stack.Ip IpNextHeader target = true
@@ -207,8 +206,7 @@ is_computed_by AppIid _ = false
 is_computed_by _ _ = true
 
 -- compute-wrong: compute on another field than the lengths and the UDP checksum, DevIID on another
--- than the device's
--- interface identifier, AppIID on another than the application's
+-- than the device's interface identifier, AppIID on another than the application's
 abbrev pub compute_wrong : EntryData → Bool
 compute_wrong e = not (is_computed_by e.action e.name)
 

@@ -1,6 +1,5 @@
 -- When a rule matches the fields of a packet: RFC 8724, sections 7.2 and 7.3. A statement on two
--- sets: the fields of
--- the packet, and the entries of the rule that are used in the direction.
+-- sets: the fields of the packet, and the entries of the rule that are used in the direction.
 use Rattle.std.specs.Prelude.{ℕ, ◌≡◌, ◌≤◌, Bool, List, length, take, Option, Some, None, Contains}
 use Rattle.std.specs.Prelude.{IsSomeAnd, IfSome, slice_get}
 use Rattle.schc_bits.specs.Bits.{number_bits}
@@ -45,8 +44,7 @@ computed_value computed UdpChecksum = Some computed.checksum
 computed_value computed _ = None
 
 -- where the other end makes the value of itself, the packet already has what it will make: what is
--- computed over the
--- packet as it is, or an interface identifier of the device or of the application
+-- computed over the packet as it is, or an interface identifier of the device or of the application
 abbrev pub RestoredHolds : Iids → Computed → FieldName → Action → List Bool → Type 0
 RestoredHolds iids computed name Compute value =
     IfSome (computed_value computed name) (λ n. value ≡ number_bits 16 n)

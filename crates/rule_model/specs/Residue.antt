@@ -1,6 +1,5 @@
 -- What is sent of a packet's fields, and what the other end makes of it: RFC 8724, section 7.4, and
--- RFC 8824, section 4.5
--- (the token).
+-- RFC 8824, section 4.5 (the token).
 use Rattle.std.specs.Prelude.{ℕ, ◌≡◌, ◌≢◌, ◌*◌, ◌/◌, ◌%◌, ◌^◌, ◌==◌, ◌≤◌, Bool, true, false, ◌&&◌}
 use Rattle.std.specs.Prelude.{nat_lt, nat_le, if◌then◌else◌, List, [], ◌∷◌, ◌++◌, length, take}
 use Rattle.std.specs.Prelude.{drop, map, replicate, position, slice_get, unwrap_or, AllPairs}
@@ -36,8 +35,7 @@ value_of [] at = []
 value_of (f ∷ fields) at = if same_field f.at at then f.value else value_of fields at
 
 -- RFC 8724, section 7.4.2: the size in bytes before a value of variable length. 0 to 14 in 4 bits,
--- 15 to 254 as four ones
--- and 8 bits, 255 to 65,535 as twelve ones and 16 bits
+-- 15 to 254 as four ones and 8 bits, 255 to 65,535 as twelve ones and 16 bits
 unfoldable pub size_code : ℕ → List Bool
 size_code size =
     if nat_lt size 15 then number_bits 4 size
@@ -45,8 +43,7 @@ size_code size =
     true ++ number_bits 16 size)
 
 -- RFC 8724, section 7.4.5: the fewest bits that code all indices below `count`, which is the first
--- width that has so many
--- numbers
+-- width that has so many numbers
 unfoldable pub index_width : ℕ → ℕ
 index_width count = position_or_len (λ width. nat_le count (2 ^ width)) (range_with_len 0 count)
 
@@ -80,8 +77,7 @@ abbrev pub entry_residue : EntryData → List Bool → List Bool
 entry_residue e value = sent_bits e.action e.length e.operator e.targets value
 
 -- RFC 8724, section 7.2: the compression residue, which is what is sent of each entry that is used
--- in the direction,
--- joined in the rule's order
+-- in the direction, joined in the rule's order
 abbrev pub residue_of : RuleData → Direction → List FieldValue → List Bool
 residue_of rule direction fields =
     flat_map (λ e. entry_residue e (value_of fields (field_of e))) (covered rule direction)
@@ -110,16 +106,14 @@ SizeHolds Variable Lsb operator value = HasSize (drop (msb_bits operator) value)
 SizeHolds _ _ operator value = Unit {0}
 
 -- the value can be sent by the entry: an option has the length that the entry fixes, a token that
--- is sent has the bits
--- that the token length field says, and what is sent with its size has one
+-- is sent has the bits that the token length field says, and what is sent with its size has one
 pub record IsSendable (fields : List FieldValue) (e : EntryData) (value : List Bool) : Type 0 where
   pub length_holds : LengthHolds e.name e.length value
   pub token_holds : TokenHolds fields e.name e.action value
   pub size_holds : SizeHolds e.length e.action e.operator value
 
 -- fields are sized for a rule and a direction: no name and position stands twice, each field that
--- has a width has so many
--- bits, and each value can be sent by the entry of its field
+-- has a width has so many bits, and each value can be sent by the entry of its field
 pub record IsSized (rule : RuleData) (direction : Direction) (fields : List FieldValue) : Type 0
   where
     pub each_once : AllPairs (λ f g. f.at ≢ g.at) fields
@@ -135,8 +129,8 @@ first_target [] = []
 first_target (target ∷ targets) = target
 
 -- what the action restores of a value at the other end: a target, an interface identifier, or what
--- was sent, with MSB's
--- first bits from the target. A computed field stands as zeros until it is computed
+-- was sent, with MSB's first bits from the target. A computed field stands as zeros until it is
+-- computed
 abbrev pub restored_by : Iids → Action → FieldName → Operator → List (List Bool) → List Bool
     → List Bool
 restored_by iids NotSent name operator targets value = first_target targets

@@ -1,6 +1,5 @@
 -- Whether a rule matches the fields of a packet, as a test that computes: RFC 8724, sections 7.2
--- and 7.3. It holds exactly
--- where the rule matches.
+-- and 7.3. It holds exactly where the rule matches.
 use Rattle.std.specs.Prelude.{ℕ, ◌==◌, Bool, true, false, ◌&&◌, ◌||◌, not, nat_le, List, length}
 use Rattle.std.specs.Prelude.{take, slice_get}
 use Rattle.std.specs.List.{list_any, list_all}

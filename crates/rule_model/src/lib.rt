@@ -1,4 +1,10 @@
-//! Compression rules as plain types, the findings that a rule can have, and admitted rules.
+//! Compression rules (RFC 8724 section 7.1) as plain types, and what can be wrong with them.
+//!
+//! A [`Rule`] is a RuleID with its [`Entries`]; each [`Entry`] says how one field is compared, by
+//! its [`Operator`] with its [`Targets`], and what is sent of it, by its [`Action`]. A
+//! [`RawEdition`] lists rules as they are handed in; a [`Finding`] says what is wrong with one, and
+//! [`Admitted`] is a rule without any. The fields of a packet are [`Fields`], each a
+//! [`FieldValue`].
 #![tactic(auto)]
 
 mod admitted;

@@ -34,8 +34,7 @@ abbrev pub reassembly_bytes : ℕ
 reassembly_bytes = 2530
 
 -- the bits of an SCHC packet that is cut in tiles, and of one that goes as a session: at most the
--- tiles of four windows of 63
--- (RFC 9011, section 5.6.2)
+-- tiles of four windows of 63 (RFC 9011, section 5.6.2)
 abbrev pub min_cut_bits : ℕ
 min_cut_bits = 96
 
@@ -81,8 +80,7 @@ abbrev pub max_datagrams : ℕ
 max_datagrams = 500000
 
 -- RuleIDs, which are ports too (RFC 9011, section 5.2): of fragments up and their answers, of
--- fragments down and their
--- answers, and of packets that no rule compresses
+-- fragments down and their answers, and of packets that no rule compresses
 abbrev pub ack_on_error_port : ℕ
 ack_on_error_port = 20
 

@@ -8,8 +8,7 @@ use Rattle.schc_ids.specs.declared.names.FieldName.{FieldName}
 use Rattle.schc_ids.specs.declared.names.FieldName.TheVariants as field
 
 -- the bits of a field: RFC 8200, section 3 (an address as a prefix and an interface identifier of
--- 64 bits each),
--- RFC 768, and RFC 7252, section 3; none for the token and the options
+-- 64 bits each), RFC 768, and RFC 7252, section 3; none for the token and the options
 abbrev pub width_of : FieldName → Option ℕ
 width_of field.IpVersion = Some 4
 width_of field.IpTrafficClass = Some 8

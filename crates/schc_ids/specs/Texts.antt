@@ -1,6 +1,5 @@
 -- The texts of field names in rule text: field identifiers in the manner of RFC 9363, and the names
--- of the options of RFC 7252
--- (section 5.10), RFC 7641, RFC 7959, RFC 7967 and RFC 8613.
+-- of the options of RFC 7252 (section 5.10), RFC 7641, RFC 7959, RFC 7967 and RFC 8613.
 use Rattle.std.specs.Prelude.{ℕ, ◌≡◌, ◌↔◌, ◌==◌, Bool, false, if◌then◌else◌, List, [], ◌∷◌, ◌++◌}
 use Rattle.std.specs.Prelude.{map, Option, Some, None, codes, find}
 use Rattle.std.specs.Option.{option_map_or}

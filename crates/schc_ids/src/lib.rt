@@ -1,6 +1,10 @@
-//! The names that all crates share: ends and directions, the fields of a packet with their widths,
-//! the parameters of ends and fragments, limits, notes and reports, and the faults of reading. Plain
-//! data without any list.
+//! The names that all crates share. Plain data without any list.
+//!
+//! [`FieldName`], [`FieldAt`], [`Layer`] and [`Stack`] name the fields and headers of a packet,
+//! [`Role`] and [`Direction`] the ends and the ways. [`EndParams`] and [`FragParams`] are the
+//! parameters of an end and of a [`FragMode`]. What a frame meant to an end is a [`Note`], how a
+//! session ended a [`Report`], and what can't be read has a [`WireFault`] or an [`UnpackFault`].
+//! The limits stand in [`limits`].
 #![tactic(auto)]
 
 mod ends;

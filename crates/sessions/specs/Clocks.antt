@@ -1,6 +1,5 @@
 -- The timers of an end: one for the session that it sends, and one for each receiver. Each has the
--- ticks that are left, or isn't
--- armed.
+-- ticks that are left, or isn't armed.
 use Rattle.std.specs.Prelude.{ℕ, ◌+◌, ◌==◌, Bool, true, false, ◌||◌, if◌then◌else◌, List, Option}
 use Rattle.std.specs.Prelude.{Some, None, slice_index_or}
 use Rattle.timers.specs.Timers.{ticked, is_due}

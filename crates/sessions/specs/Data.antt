@@ -14,8 +14,7 @@ use Rattle.sessions.specs.declared.receivers.Receiver.{Receiver}
 use Rattle.sessions.specs.declared.moves.Running.{Running}
 
 -- the end's role and parameters, the sessions that it sends and the receivers that it has, by their
--- keys, and the number of the
--- next session
+-- keys, and the number of the next session
 pub record SessionsData : Type 0 where
   pub role : Role
   pub params : EndParams

@@ -1,6 +1,5 @@
 -- RFC 8724, section 8.2.4: at an end a session has a RuleID, which is its port (RFC 9011, section
--- 5.1), and a DTag. Lists by this
--- key, in the order in which they are served.
+-- 5.1), and a DTag. Lists by this key, in the order in which they are served.
 use Rattle.std.specs.Prelude.{ℕ, Bool, ◌==◌, ◌&&◌, cond, List, [], ◌∷◌, ◌++◌, Option, Some, None}
 
 -- the DTag has no bits, so the tag is 0

@@ -104,8 +104,7 @@ abbrev pub stays : Session × Heard → Option Session × Heard
 stays step = (Some step.0, step.1)
 
 -- the timer is due, and isn't armed any more: a request that wasn't answered is made again, and a
--- session whose quiet time has
--- passed is gone
+-- session whose quiet time has passed is gone
 unfoldable pub fired_in : TimerTicks → Session → SenderPhase → Option Session × Heard
 fired_in ticks session Waiting = stays (session_after ticks session (sender_retried session.sender))
 fired_in ticks session Quiet = (None, heard.Nothing)

@@ -1,11 +1,14 @@
-//! The definitions of the sessions of an end, and the unions of the machines that they are made of
-//! (RFC 8724 section 8, RFC 9011 section 5).
+//! The sessions of an end: what it sends and receives in fragments (RFC 8724 section 8, RFC 9011
+//! section 5).
 //!
-//! The definitions have an end's sessions by key, which is the port: the senders and the receivers,
-//! each with the ticks that are left of its timer, and the number of the next session; and the step of
-//! each call. The code has a sender and a receiver of whatever mode, the timers of an end, what is
-//! reported, and the calls by which sessions begin, give frames, take frames, let time pass and are
-//! given up.
+//! [`Sessions`] have at most one [`Sender`] and, for each port by which fragments come, a
+//! [`Receiver`], each of whatever mode, and their timers, the [`Clocks`]. What they give to be sent
+//! is a [`SessionOut`]. By their calls sessions begin, give frames, take frames, let time pass and
+//! are given up.
+//!
+//! The definitions have them by key, which is the port: the senders and the receivers, each with
+//! the ticks that are left of its timer, and the number of the next session; and the step of each
+//! call.
 #![tactic(auto)]
 
 mod clocks;

@@ -18,8 +18,7 @@ pub record IsExchanged (total a b : ℕ) (next previous next' previous' : ℕ �
   pub previous_is : (x : ℕ) → x < total → previous' x ≡ exchanged a b (previous x)
 
 -- each ring has nodes of one place. Each key of a place is in the ring of its head, since its rank
--- is above that of the node
--- before it.
+-- is above that of the node before it.
 pub record AreRings (total : ℕ) (place next previous rank : ℕ → ℕ) : Type 0 where
   pub inverse : AreInverse total next previous
   pub alike : (x : ℕ) → x < total → place (next x) ≡ place x

@@ -1,6 +1,6 @@
 -- The wheel: deadlines, the set of the keys whose deadline has come, and the places of the others.
--- Each of the four levels has
--- 32 places, at level l of 32 ^ l ticks each: the ticks from n 32 ^ l on are those of place n % 32.
+-- Each of the four levels has 32 places, at level l of 32 ^ l ticks each: the ticks from n 32 ^ l
+-- on are those of place n % 32.
 use Rattle.std.specs.Prelude.{ℕ, ◌⊎◌, ◌≡◌, ◌≢◌, ◌<◌, ◌≤◌, ◌+◌, ◌-◌, ◌*◌, ◌/◌, ◌%◌, ◌^◌, Bool, true}
 use Rattle.std.specs.Prelude.{false, Option, None, Some, List, length, slice_set, slice_index_or}
 

@@ -1,4 +1,6 @@
 //! The lines that are printed for events and their outcomes.
+//!
+//! [`line_text`] is the text of a [`Line`](event_data::Line), with the event that it came of.
 #![tactic(auto)]
 
 mod ended;
