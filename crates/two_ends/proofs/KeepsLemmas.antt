@@ -178,7 +178,8 @@ begun-later : (key : Key) (b : Began) (begun : Begun) (rest : List Began)
 begun-later key b begun rest s =
     record { began = s.began; there = inr s.there; its_key = s.its_key; its = s.its }
 
-among-begins : (key : Key) (begun : Begun) (begins : List Began)
+-- a session among those of a key is one of all, of that key
+pub among-begins : (key : Key) (begun : Begun) (begins : List Began)
     → Among begun (begins_of key begins) → IsSessionOf begins key begun
 unfolding begins_of
 among-begins key begun [] there = absurd there
@@ -208,7 +209,8 @@ placed-at k (c ∷ begins) b placed (inr there) =
     let s = placed-at (suc k) begins b placed.1 there in
     record { i = suc s.i; at = s.at; place = let p = s.place in omega (arith, p) }
 
-at-own-place : (begins : List Began) (b : Began) → ArePlaced 0 begins → Among b begins
+-- each session stands at its own place
+pub at-own-place : (begins : List Began) (b : Began) → ArePlaced 0 begins → Among b begins
     → slice_get begins b.it.place ≡ Some b
 at-own-place begins b placed there =
     let s = placed-at 0 begins b placed there in

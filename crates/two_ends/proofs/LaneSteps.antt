@@ -203,7 +203,8 @@ pub whole-sessions : (end : EndData) (frame : FrameData) → meaning_of end.role
 unfolding take_step take_from
 whole-sessions end frame e = rw e refl
 
-whole-port : (params : EndParams) (h : History) (direction : Direction) (place : ℕ)
+-- a frame that carries a whole packet comes by a port of whole packets
+pub whole-port : (params : EndParams) (h : History) (direction : Direction) (place : ℕ)
     (frame : FrameData) → ChainKept h.world.chain → EndsKept params h.world
     → IsMarked params.iids h direction (WholeFrame place frame)
     → meaning_of (end_of h.world (taker direction)).role frame.port ≡ Whole
@@ -240,19 +241,22 @@ among-numbered : {A : Type 0} (xs : List A) (number : ℕ) (x : A) → numbered 
 among-numbered xs zero x e = absurd cc
 among-numbered xs (suc k) x e = among-place xs k x e
 
-same-true : (a b : Direction) → same_way a b ≡ true → a ≡ b
+-- directions that are told to be the same are the same
+pub same-true : (a b : Direction) → same_way a b ≡ true → a ≡ b
 same-true way.Up way.Up e = refl
 same-true way.Up way.Down e = absurd cc
 same-true way.Down way.Up e = absurd cc
 same-true way.Down way.Down e = refl
 
-same-false : (a b : Direction) → same_way a b ≡ false → a ≡ other_direction b
+-- and others are opposite
+pub same-false : (a b : Direction) → same_way a b ≡ false → a ≡ other_direction b
 same-false way.Up way.Up e = absurd cc
 same-false way.Up way.Down e = refl
 same-false way.Down way.Up e = refl
 same-false way.Down way.Down e = absurd cc
 
-other-taker : (w : Direction) → taker (other_direction w) ≡ sender w
+-- the end that takes what goes the other way is the one that sends
+pub other-taker : (w : Direction) → taker (other_direction w) ≡ sender w
 other-taker way.Up = refl
 other-taker way.Down = refl
 
@@ -521,6 +525,7 @@ lane-begins params way.Down id =
     let p = start-parts params way.Down id in
     rw (p.0, p.1, p.2, mode-params (mode_of (record { way = way.Down; id = id }))) refl
 
+-- at the beginning a key's lane is a new one
 pub lane-start : (params : EndParams) (key : Key)
     → lane_of params key (start params) ≡ new_lane (lane_params params key)
 lane-start params key = lane-begins params key.way key.id

@@ -224,7 +224,8 @@ own-same params role h ends =
     ap (λ r. out_key r (end_of h.world role).params.acked) (ends role).its_role
     ∙ ap (λ (p : EndParams). out_key role p.acked) (ends role).its_params
 
-sender-own : (h : History) (role : Role) (i : SessionKey)
+-- the session of a key by which an end sends is the one that the end has by it
+pub sender-own : (h : History) (role : Role) (i : SessionKey)
     → sender_at h.world (sent_key role i) ≡ found i (end_of h.world role).sessions.senders
 unfolding sender_at
 sender-own h Device i = refl

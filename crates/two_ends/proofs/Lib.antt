@@ -29,3 +29,7 @@ pub mod ModeLemmas
 pub mod TalkBeginsLemmas
 pub mod CleanLemmas
 pub mod HeadlineLemmas
+pub mod NumberLemmas
+pub mod ToldLemmas
+pub mod ToldReports
+pub mod ToldRun

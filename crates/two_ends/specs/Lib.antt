@@ -10,3 +10,4 @@ pub mod Fresh
 pub mod Safe
 pub mod Clean
 pub mod Offers
+pub mod Told

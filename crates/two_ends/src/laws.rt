@@ -5,6 +5,7 @@ ghost use Rattle.two_ends.specs.Safe.{Headline};
 ghost use Rattle.two_ends.specs.Clean.{Clean};
 ghost use Rattle.two_ends.specs.Lanes.{StepsOfAWorld};
 ghost use Rattle.two_ends.specs.Offers.{Offers};
+ghost use Rattle.two_ends.specs.Told.{LogsTell};
 
 /// Over every list of events, each packet that a whole frame handed up is one that was handed down
 /// earlier at the other end: the packet to which its label leads. Where no assembly over which a
@@ -31,4 +32,11 @@ pub fn clean()
 /// the one that it knows: none ever diverges.
 pub fn offers()
     ensures { Offers }
+{}
+
+/// What the logs gain by an event is what its line tells: the packet that was handed down, the one
+/// that was handed up, the session that began with its number, and the reports, each of a session
+/// that this end began and of how it ended.
+pub fn logs_tell()
+    ensures { LogsTell }
 {}
